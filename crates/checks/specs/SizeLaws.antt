@@ -1,0 +1,20 @@
+-- Sizes that pass the check. Assumes nothing.
+use Prim.Native.Nat.{ℕ, _*_, _≤_}
+use mathlib.Core.Path.{_≡_}
+use mathlib.Core.Bool.{true}
+use native.Mathlib.Nat.{mul-le-mul}
+use lib.Dec.{leb}
+use borrow.Author.Tests.{leb-true}
+use Rattle.tally.specs.TallyLaws.{and-left, and-right}
+use Rattle.rules.specs.Check.{sizeFits}
+
+-- a size of 2 to 9, and what follows for its grid
+pub record Size (n : ℕ) : Type 0 where
+  pub low : 2 ≤ n
+  pub high : n ≤ 9
+  pub square : n * n ≤ 81
+
+pub size-in : (n : ℕ) → sizeFits n ≡ true → Size n
+size-in n h =
+    let u = leb-true n 9 (and-right (leb 2 n) (leb n 9) h) in
+    record { low = leb-true 2 n (and-left (leb 2 n) (leb n 9) h); high = u; square = mul-le-mul u u }

@@ -1,0 +1,27 @@
+-- `doppelblock::doppelblock_target_sums` meets its contract. Assumes nothing.
+use mathlib.Core.Path.{ap, _∙_}
+use Rattle.grid.specs.Answer.{numberOf, number-summed}
+use borrow.Author.Needs.{needs}
+use Rattle.doppelblock.proofs.doppelblock_target_sums.Statement.{statement}
+use Rattle.doppelblock.proofs.doppelblock_target_sums.Tie as tie
+
+compute-targets-requires : tie.Need-compute-targets-requires
+compute-targets-requires c κs = search needs
+
+number-requires : tie.Need-number-requires
+number-requires c κs = search needs
+
+same-length : tie.Need-same-length
+same-length c = search needs
+
+same-length-2 : tie.Need-same-length-2
+same-length-2 c = search needs
+
+returns : tie.Need-returns
+returns c =
+    let t = c .before .before .before .before .before .compute-targets .ensures in
+    record { number-is = c .number .ensures ∙ ap numberOf (t .answer-is) ∙ number-summed _; rows-are = t .rows-are; columns-are = t .columns-are }
+
+pub doppelblock-target-sums-spec : {M : Type 1} → statement M
+doppelblock-target-sums-spec =
+    tie.close (tie.spec compute-targets-requires number-requires same-length same-length-2 returns)

@@ -1,0 +1,91 @@
+-- None, exactly one and several grids, told apart by the number. Assumes nothing.
+use Prim.Native.Nat.{ℕ, zero, suc, _+_, _-_, _*_, _≤_, _<_, min}
+use mathlib.Core.Path.{_≡_, refl, sym, ap, _∙_}
+use mathlib.Core.Bool.{true}
+use mathlib.Core.List.{List, List·Memᴰ·head, List·Memᴰ·tail}
+use native.Mathlib.Omega.{arith}
+use native.Mathlib.Decide.{decLt}
+use Rattle.tally.specs.Tally.{count}
+use Rattle.tally.specs.TallyLaws.{Way, Once, count-none, count-one, span-in, span-past, span-once, bit-ne}
+use Rattle.tally.specs.WayLaws.{count-find, count-some, count-two, count-another}
+use Rattle.rules.specs.Line.{black, digits}
+use Rattle.rules.specs.Grid.{Puzzle}
+use Rattle.rules.specs.Number.{symbols, grids, solves, number, Verdict, unsolvable, unique, multiple, verdictOf}
+
+-- a grid of black and digits that keeps the puzzle and the marks
+pub record Solution (p : Puzzle) (ms g : List ℕ) : Type 0 where
+  pub filled : Way (symbols (p .size)) (p .size * p .size) g
+  pub right : solves p ms g ≡ true
+
+-- black and the digits are different values
+pub symbols-once : (n : ℕ) → n ≤ 9 → Once (symbols n)
+unfolding Once symbols digits count
+symbols-once n h c (List·Memᴰ·head e) = rw e (omega (arith, span-past 1 (n - 2) 255 (omega arith)))
+symbols-once n h c (List·Memᴰ·tail m) =
+    let r = span-in 1 (n - 2) c m in omega (arith, bit-ne c black (omega arith), span-once 1 (n - 2) c (r .0) (r .1))
+
+module _ (p : Puzzle) (ms : List ℕ) where
+  -- NONE
+  pub none-zero : ((g : List ℕ) → Solution p ms g → ⊥) → number p ms ≡ 0
+  unfolding number grids
+  none-zero h = count-none (symbols (p .size)) (p .size * p .size) (solves p ms) (λ g w t. h g (record { filled = w; right = t }))
+
+  -- where the number is not 0 there is a grid
+  pub some-grid : 0 < number p ms → (g : List ℕ) × Solution p ms g
+  unfolding number grids
+  some-grid h =
+      let f = count-find (symbols (p .size)) (p .size * p .size) (solves p ms) h in (f .0, record { filled = f .1; right = f .2 })
+
+  module _ (fits : p .size ≤ 9) where
+    -- and where there is a grid the number is not 0
+    pub grid-some : (g : List ℕ) → Solution p ms g → 0 < number p ms
+    unfolding number grids
+    grid-some g s = count-some (symbols (p .size)) (symbols-once (p .size) fits) (p .size * p .size) (solves p ms) g (s .filled) (s .right)
+
+    pub zero-none : number p ms ≡ 0 → (g : List ℕ) → Solution p ms g → ⊥
+    zero-none e g s = omega (arith, grid-some g s)
+
+    -- ONE
+    pub only-one : (g : List ℕ) → Solution p ms g → ((h : List ℕ) → Solution p ms h → h ≡ g) → number p ms ≡ 1
+    unfolding number grids
+    only-one g s u =
+        count-one (symbols (p .size)) (symbols-once (p .size) fits) (p .size * p .size) (solves p ms) g (s .filled) (s .right) (λ h w t. u h (record { filled = w; right = t }))
+
+    -- SEVERAL
+    pub two-several : (g h : List ℕ) → Solution p ms g → Solution p ms h → (h ≡ g → ⊥) → 2 ≤ number p ms
+    unfolding number grids
+    two-several g h s t d =
+        count-two (symbols (p .size)) (symbols-once (p .size) fits) (p .size * p .size) (solves p ms) g (s .filled) (s .right) h (t .filled) (t .right) d
+
+    pub several-two : (g : List ℕ) → Solution p ms g → 2 ≤ number p ms → (h : List ℕ) × Solution p ms h × (h ≡ g → ⊥)
+    unfolding number grids
+    several-two g s l =
+        let o = count-another (symbols (p .size)) (symbols-once (p .size) fits) (p .size * p .size) (solves p ms) g (s .filled) (s .right) l in
+        (o .0, record { filled = o .1; right = o .2 }, o .3)
+
+-- ---- the verdict is that of the number
+
+pub verdict-none : (k : ℕ) → verdictOf k ≡ unsolvable → k ≡ 0
+unfolding verdictOf
+verdict-none zero e = refl
+verdict-none (suc zero) e = let z : _≡_ {A = ℕ} 0 1 = cc in absurd (omega arith)
+verdict-none (suc (suc k)) e = let z : _≡_ {A = ℕ} 0 1 = cc in absurd (omega arith)
+
+pub verdict-one : (k : ℕ) → verdictOf k ≡ unique → k ≡ 1
+unfolding verdictOf
+verdict-one zero e = let z : _≡_ {A = ℕ} 0 1 = cc in absurd (omega arith)
+verdict-one (suc zero) e = refl
+verdict-one (suc (suc k)) e = let z : _≡_ {A = ℕ} 0 1 = cc in absurd (omega arith)
+
+pub verdict-several : (k : ℕ) → verdictOf k ≡ multiple → 2 ≤ k
+unfolding verdictOf
+verdict-several zero e = let z : _≡_ {A = ℕ} 0 1 = cc in absurd (omega arith)
+verdict-several (suc zero) e = let z : _≡_ {A = ℕ} 0 1 = cc in absurd (omega arith)
+verdict-several (suc (suc k)) e = omega arith
+
+-- a count to the cap 2 tells the verdict
+pub verdict-capped : (k : ℕ) → verdictOf (min 2 k) ≡ verdictOf k
+unfolding verdictOf
+verdict-capped zero = refl
+verdict-capped (suc zero) = refl
+verdict-capped (suc (suc k)) = let e : min 2 (suc (suc k)) ≡ 2 = omega arith in rw e

@@ -1,0 +1,107 @@
+-- The checks that a call makes of its input, and the number that it refuses by. Assumes nothing.
+use Prim.Native.Nat.{ℕ, zero, suc, _-_, _*_, _/_}
+use mathlib.Core.Bool.{Bool, not, _&&_, _||_, cond}
+use mathlib.Core.List.{List, [], _∷_, _++_, map}
+use lib.Dec.{eqb, ltb, leb}
+use lib.ListN.{length}
+use Rattle.tally.specs.Tally.{all, count, join}
+use Rattle.rules.specs.Line.{isBlack, inside, lineSum}
+use Rattle.rules.specs.Grid.{Puzzle, line, lines}
+use Rattle.rules.specs.Mark.{markRow, markColumn, markValue, markSpare}
+
+-- A check: its number, and whether the input passes.
+pub data Check : Type 0 where
+  check : ℕ → Bool → Check
+
+-- The refusal: the number of the first check that fails, or 0.
+unfoldable pub refusal : List Check → ℕ
+refusal [] = 0
+refusal (check k ok ∷ cs) = cond ok (refusal cs) k
+
+-- A buffer afterwards: as written where nothing is refused, else as it was.
+abbrev pub unlessRefused : ℕ → List ℕ → List ℕ → List ℕ
+unlessRefused zero old new = new
+unlessRefused (suc k) old new = old
+
+-- ---- the checks, by their numbers
+
+-- The size is 2 to 9.
+abbrev pub sizeFits : ℕ → Bool
+sizeFits n = leb 2 n && leb n 9
+
+-- 1: the size.
+abbrev pub checkSize : ℕ → Check
+checkSize n = check 1 (sizeFits n)
+
+-- Both target slices, by their lengths, are n long.
+abbrev pub targetsFit : ℕ → ℕ → ℕ → Bool
+targetsFit n rows columns = eqb rows n && eqb columns n
+
+-- 2: the lengths of the target slices.
+abbrev pub checkLengths : ℕ → ℕ → ℕ → Check
+checkLengths n rows columns = check 2 (targetsFit n rows columns)
+
+-- The greatest target: the sum of all digits.
+unfoldable pub maxTarget : ℕ → ℕ
+maxTarget n = (n - 2) * (n - 1) / 2
+
+-- 3: each target is at most the greatest.
+abbrev pub checkTargets : ℕ → List ℕ → List ℕ → Check
+checkTargets n rows columns = check 3 (all (λ t. leb t (maxTarget n)) rows && all (λ t. leb t (maxTarget n)) columns)
+
+-- A value that a mark may name at size n: a digit, or one of the four blacks.
+unfoldable pub named : ℕ → ℕ → Bool
+named n v = leb 1 v && leb v (n - 2) || leb 8 v && leb v 11
+
+-- 4, 5, 6: the spare bits of a mark are zero, its cell lies in the grid, its value is named.
+abbrev pub checkMark : ℕ → ℕ → List Check
+checkMark n m =
+    check 4 (eqb (markSpare m) 0) ∷ check 5 (ltb (markRow m) n && ltb (markColumn m) n) ∷ check 6 (named n (markValue m)) ∷ []
+
+-- 7: the cell or table buffer, by its length, is n * n long.
+abbrev pub checkBuffer : ℕ → ℕ → Check
+checkBuffer n len = check 7 (eqb len (n * n))
+
+-- A cell is empty.
+abbrev pub isEmpty : ℕ → Bool
+isEmpty c = eqb c 0
+
+-- 8, 9, 10: a line has exactly two blacks, only numbers between them, and a sum of at most 255.
+abbrev pub checkLine : List ℕ → List Check
+checkLine l =
+    check 8 (eqb (count isBlack l) 2) ∷ check 9 (all (λ c. not (isEmpty c)) (inside l)) ∷ check 10 (leb (lineSum l) 255) ∷ []
+
+-- 8, 9, 10 for each line, the rows first.
+abbrev pub checkLines : ℕ → List ℕ → List Check
+checkLines n g = join (map (λ ℓ. checkLine (line n g ℓ)) (lines n))
+
+-- ---- the checks of each call, in its order
+
+-- The puzzle: 1, 2, 3.
+abbrev pub puzzleChecks : Puzzle → List Check
+puzzleChecks p =
+    checkSize (p .size)
+    ∷ checkLengths (p .size) (length (p .rows)) (length (p .columns))
+    ∷ checkTargets (p .size) (p .rows) (p .columns)
+    ∷ []
+
+-- The marks, one after the other: 4, 5, 6.
+abbrev pub markChecks : ℕ → List ℕ → List Check
+markChecks n ms = join (map (checkMark n) ms)
+
+-- Count: 1 to 6.
+unfoldable pub countChecks : Puzzle → List ℕ → List Check
+countChecks p ms = puzzleChecks p ++ markChecks (p .size) ms
+
+-- Solve and Candidates: 1 to 7.
+unfoldable pub solveChecks : Puzzle → List ℕ → ℕ → List Check
+solveChecks p ms len = countChecks p ms ++ checkBuffer (p .size) len ∷ []
+
+-- Marking a sheet of cells: 1, 2, 3, 7.
+unfoldable pub sheetChecks : Puzzle → List ℕ → List Check
+sheetChecks p cells = puzzleChecks p ++ checkBuffer (p .size) (length cells) ∷ []
+
+-- Target sums: 1, 7, 2, then 8, 9, 10 line by line. Of the target slices only the lengths count.
+unfoldable pub sumsChecks : ℕ → List ℕ → ℕ → ℕ → List Check
+sumsChecks n cells rows columns =
+    (checkSize n ∷ checkBuffer n (length cells) ∷ checkLengths n rows columns ∷ []) ++ checkLines n cells

@@ -1,0 +1,56 @@
+-- A grid of n * n cells, row by row, its lines, and when it keeps a puzzle. Assumes nothing.
+use Prim.Native.Nat.{ℕ, _+_, _*_}
+use mathlib.Core.Bool.{Bool}
+use mathlib.Core.List.{List, _++_, map}
+use lib.ListN.{getD}
+use Rattle.tally.specs.Tally.{span, all}
+use Rattle.rules.specs.Line.{lawful, keepsLine}
+
+-- The cell of row r and column c.
+unfoldable pub cell : ℕ → List ℕ → ℕ → ℕ → ℕ
+cell n g r c = getD g (r * n + c) 0
+
+-- The cells of row r, from left to right.
+unfoldable pub row : ℕ → List ℕ → ℕ → List ℕ
+row n g r = map (λ c. cell n g r c) (span 0 n)
+
+-- The cells of column c, from top to bottom.
+unfoldable pub column : ℕ → List ℕ → ℕ → List ℕ
+column n g c = map (λ r. cell n g r c) (span 0 n)
+
+-- A line is a row, across the grid, or a column, down the grid.
+pub data Line : Type 0 where
+  across down : ℕ → Line
+
+-- The number of a line among its kind.
+unfoldable pub index : Line → ℕ
+index (across r) = r
+index (down c) = c
+
+-- The cells of a line.
+unfoldable pub line : ℕ → List ℕ → Line → List ℕ
+line n g (across r) = row n g r
+line n g (down c) = column n g c
+
+-- All lines of size n: the rows, then the columns.
+unfoldable pub lines : ℕ → List Line
+lines n = map across (span 0 n) ++ map down (span 0 n)
+
+-- A grid is lawful: each line is.
+unfoldable pub lawfulGrid : ℕ → List ℕ → Bool
+lawfulGrid n g = all (λ ℓ. lawful n (line n g ℓ)) (lines n)
+
+-- A puzzle: its size, and a target for each row and each column.
+pub record Puzzle : Type 0 where
+  pub size : ℕ
+  pub rows : List ℕ
+  pub columns : List ℕ
+
+-- The target of a line.
+unfoldable pub target : Puzzle → Line → ℕ
+target p (across r) = getD (p .rows) r 0
+target p (down c) = getD (p .columns) c 0
+
+-- A grid keeps a puzzle: each line keeps its target.
+unfoldable pub keeps : Puzzle → List ℕ → Bool
+keeps p g = all (λ ℓ. keepsLine (p .size) (target p ℓ) (line (p .size) g ℓ)) (lines (p .size))

@@ -1,0 +1,11 @@
+pub mod Line
+pub mod Grid
+pub mod Mark
+pub mod Number
+pub mod Arrangement
+pub mod Check
+pub mod Sums
+pub mod Marking
+pub mod GridLaws
+pub mod SizeFour
+pub mod Samples

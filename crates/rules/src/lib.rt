@@ -1,0 +1,1 @@
+// Nothing to run: the crate holds the rules of the puzzle as definitions, in specs/.

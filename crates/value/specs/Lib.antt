@@ -1,0 +1,3 @@
+pub mod Mask
+pub mod MaskLaws
+pub mod NamedLaws
