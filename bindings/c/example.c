@@ -1,0 +1,50 @@
+/* Target sums and marking from C. It prints the same lines as the Rust example
+   and exits with 1 if the engine answers anything unexpected. */
+#include "doppelblock.h"
+
+#include <stdio.h>
+#include <stdlib.h>
+
+enum { SIZE = 3, CELLS = SIZE * SIZE, B = DOPPELBLOCK_BLACK };
+
+static void expect(const char *what, uint8_t answer, uint8_t expected)
+{
+    if (answer != expected) {
+        fprintf(stderr, "%s: answer %d, expected %d\n", what, answer, expected);
+        exit(1);
+    }
+}
+
+static void print_line(const char *name, const uint8_t *sums, const char *end)
+{
+    printf("%s", name);
+    for (size_t i = 0; i < SIZE; i++)
+        printf(" %d", sums[i]);
+    printf("%s", end);
+}
+
+int main(void)
+{
+    uint8_t cells[CELLS] = {B, 1, B, 1, B, B, B, B, 1};
+    uint8_t rows[SIZE], columns[SIZE];
+
+    uint8_t answer = doppelblock_target_sums(SIZE, cells, CELLS, rows, SIZE,
+                                             columns, SIZE);
+    expect("sums", answer, DOPPELBLOCK_DONE);
+    print_line("rows", rows, ", ");
+    print_line("columns", columns, "\n");
+
+    answer = doppelblock_mark_sheet(SIZE, rows, SIZE, columns, SIZE, cells, CELLS);
+    expect("sheet", answer, DOPPELBLOCK_SHEET_RIGHT);
+    puts("the sheet is right");
+
+    cells[0] = DOPPELBLOCK_EMPTY;
+    answer = doppelblock_mark_sheet(SIZE, rows, SIZE, columns, SIZE, cells, CELLS);
+    expect("changed sheet", answer, DOPPELBLOCK_SHEET_WRONG);
+    puts("without its first black it is wrong");
+
+    answer = doppelblock_target_sums(SIZE, cells, CELLS, rows, SIZE, columns, SIZE);
+    expect("changed sums", answer, DOPPELBLOCK_REFUSED_BLACKS);
+    printf("and its sums are refused with %d\n", answer);
+    return 0;
+}

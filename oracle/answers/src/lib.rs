@@ -1,0 +1,55 @@
+//! The list of answers for the replay program. See oracle/README.md for the
+//! form of the records.
+//!
+//! Every answer comes from the published Rust. The rules give the refusals that
+//! the Rust does not have, and decide where docs/DIFFERENCES.md lets them differ.
+
+mod marking;
+mod record;
+mod sums;
+
+pub use record::{Read, Record, read};
+
+/// A call whose answers can be written.
+#[derive(Clone, Copy, Debug, PartialEq, Eq)]
+pub enum Call {
+    TargetSums,
+    MarkSheet,
+}
+
+impl Call {
+    pub const ALL: [Call; 2] = [Call::TargetSums, Call::MarkSheet];
+
+    /// The word that chooses this call on the command line.
+    pub fn named(word: &str) -> Option<Call> {
+        match word {
+            "sums" => Some(Call::TargetSums),
+            "marking" => Some(Call::MarkSheet),
+            _ => None,
+        }
+    }
+
+    /// The first byte of its records.
+    pub fn tag(self) -> u8 {
+        match self {
+            Call::TargetSums => 1,
+            Call::MarkSheet => 2,
+        }
+    }
+
+    /// The number of fields in its records.
+    pub fn fields(self) -> usize {
+        match self {
+            Call::TargetSums => 7,
+            Call::MarkSheet => 5,
+        }
+    }
+
+    /// Its records, always the same ones.
+    pub fn records(self) -> Vec<Record> {
+        match self {
+            Call::TargetSums => sums::records(),
+            Call::MarkSheet => marking::records(),
+        }
+    }
+}

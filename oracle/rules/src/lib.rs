@@ -1,0 +1,50 @@
+//! What each call has to answer, written from document 01 and from nothing
+//! else: neither the engine nor the published Rust enters here.
+//!
+//! A refusal is its number. Where a call refuses, it writes nothing.
+
+mod grids;
+mod marks;
+mod sums;
+
+pub use grids::{satisfies, ways};
+pub use marks::{Mark, marks_refusal};
+pub use sums::{Sums, line_sum, mark_sheet, target_sums};
+
+/// Cell byte of a cell that holds nothing.
+pub const EMPTY: u8 = 0;
+/// Cell byte of a black cell.
+pub const BLACK: u8 = 255;
+
+/// The greatest sum that the digits 1 to size - 2 can have.
+pub fn greatest_target(size: usize) -> usize {
+    (size - 2) * (size - 1) / 2
+}
+
+/// Number 1: the size is not 2 to 9.
+pub fn size_refusal(size: usize) -> Option<u8> {
+    (!(2..=9).contains(&size)).then_some(1)
+}
+
+/// Number 2: not one target for each row and each column.
+pub fn lengths_refusal(size: usize, rows: usize, columns: usize) -> Option<u8> {
+    (rows != size || columns != size).then_some(2)
+}
+
+/// Number 3: a target that no line can have.
+pub fn targets_refusal(size: usize, rows: &[u8], columns: &[u8]) -> Option<u8> {
+    let too_large = |&target: &u8| usize::from(target) > greatest_target(size);
+    rows.iter().chain(columns).any(too_large).then_some(3)
+}
+
+/// Number 7: not one entry for each cell.
+pub fn cells_refusal(size: usize, length: usize) -> Option<u8> {
+    (length != size * size).then_some(7)
+}
+
+/// Numbers 1, 2 and 3, in this order: what every call with a puzzle checks first.
+pub fn puzzle_refusal(size: usize, rows: &[u8], columns: &[u8]) -> Option<u8> {
+    size_refusal(size)
+        .or_else(|| lengths_refusal(size, rows.len(), columns.len()))
+        .or_else(|| targets_refusal(size, rows, columns))
+}
