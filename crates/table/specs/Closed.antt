@@ -1,0 +1,66 @@
+-- Arrangements in a line of a table, and closed tables: the four points. Assumes nothing.
+use Prim.Native.Nat.{ℕ, suc, _+_, _-_, _<_}
+use mathlib.Core.Path.{_≡_}
+use mathlib.Core.Logic.{_≢_}
+use mathlib.Core.Bool.{Bool, true, false, _||_, cond}
+use mathlib.Core.List.{List, List·Memᴰ}
+use lib.Dec.{eqb, ltb}
+use lib.ListN.{length}
+use Rattle.tally.specs.Tally.{any}
+use Rattle.rules.specs.Line.{digits}
+use Rattle.rules.specs.Grid.{Line, across, down, index, Puzzle, target}
+use Rattle.rules.specs.Mark.{leftBlack, rightBlack, upperBlack, lowerBlack}
+use Rattle.rules.specs.Arrangement.{Arrangement, arrangements}
+use Rattle.table.specs.Table.{Table, Places, places, firstBlack, half}
+
+-- ---- arrangements
+
+-- Cell j of an arrangement as a place of the line, wrapping at the line's end.
+unfoldable pub place : ℕ → Arrangement → ℕ → ℕ
+place n a j = cond (ltb (a .start + j) n) (a .start + j) (a .start + j - n)
+
+-- The pattern of an arrangement allows the value v at its cell j: a black at its ends, a digit of the set between them.
+unfoldable pub allows : ℕ → Arrangement → ℕ → ℕ → Bool
+allows k a j v =
+    cond (eqb j 0) (eqb v (cond (a .isInside) k (suc k)))
+    (cond (eqb j (length (a .digitSet) + 1)) (eqb v (cond (a .isInside) (suc k) k)) (any (eqb v) (a .digitSet)))
+
+-- Each of its cells still has a candidate of the pattern.
+pub record Live (n k : ℕ) (m : Places) (a : Arrangement) : Type 0 where
+  pub live : (j : ℕ) → j < length (a .digitSet) + 2 → (v : ℕ) × (m (place n a j) v ≡ true) × (allows k a j v ≡ true)
+
+-- The value v of place i lies in it.
+pub record Covers (n k : ℕ) (a : Arrangement) (i v : ℕ) : Type 0 where
+  pub step : ℕ
+  pub within : step < length (a .digitSet) + 2
+  pub there : place n a step ≡ i
+  pub allowed : allows k a step v ≡ true
+
+-- The value v of place i lies in a live arrangement of the line.
+pub record Supported (n k t : ℕ) (m : Places) (i v : ℕ) : Type 0 where
+  pub arrangement : Arrangement
+  pub listed : List·Memᴰ arrangement (arrangements n t)
+  pub alive : Live n k m arrangement
+  pub covers : Covers n k arrangement i v
+
+-- ---- closed
+
+-- A closed line with target t, if k is its first black.
+pub record ClosedLine (n k t : ℕ) (m : Places) : Type 0 where
+  -- a half with one candidate left: that candidate is nowhere else in the line
+  pub lone : (i j v : ℕ) → i < n → j < n → i ≢ j → List·Memᴰ v (half n k) → m i v ≡ true → ((w : ℕ) → List·Memᴰ w (half n k) → m i w ≡ true → w ≡ v) → m j v ≡ false
+  -- a candidate with one place left in the line: that place's half has no other
+  pub single : (i v w : ℕ) → i < n → List·Memᴰ v (half n k) → List·Memᴰ w (half n k) → m i v ≡ true → ((j : ℕ) → j < n → m j v ≡ true → j ≡ i) → m i w ≡ true → w ≡ v
+  -- each candidate lies in a live arrangement
+  pub supported : (i v : ℕ) → i < n → List·Memᴰ v (half n k) → m i v ≡ true → Supported n k t m i v
+
+-- A closed table.
+pub record Closed (p : Puzzle) (t : Table) : Type 0 where
+  pub lines : (ℓ : Line) → index ℓ < p .size → ClosedLine (p .size) (firstBlack ℓ) (target p ℓ) (places t ℓ)
+  -- a digit alone in its row half is nowhere else in its column, and one alone in its column half nowhere else in its row
+  pub crossed : (r c i d : ℕ) → r < p .size → c < p .size → i < p .size → List·Memᴰ d (digits (p .size)) → t r c d ≡ true →
+      ((w : ℕ) → List·Memᴰ w (half (p .size) leftBlack) → t r c w ≡ true → w ≡ d) → i ≢ r → t i c d ≡ false
+  pub crossedBack : (r c j d : ℕ) → r < p .size → c < p .size → j < p .size → List·Memᴰ d (digits (p .size)) → t r c d ≡ true →
+      ((w : ℕ) → List·Memᴰ w (half (p .size) upperBlack) → t r c w ≡ true → w ≡ d) → j ≢ c → t r j d ≡ false
+  -- a cell has row blacks exactly where it has column blacks
+  pub blacks : (r c : ℕ) → r < p .size → c < p .size → (t r c leftBlack || t r c rightBlack) ≡ (t r c upperBlack || t r c lowerBlack)

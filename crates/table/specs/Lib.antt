@@ -1,0 +1,5 @@
+pub mod Table
+pub mod Closed
+pub mod Steps
+pub mod Reading
+pub mod TableFacts

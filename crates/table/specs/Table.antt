@@ -1,0 +1,64 @@
+-- Candidate tables: which values a cell may still have, and which grids fit. Assumes nothing.
+use Prim.Native.Nat.{ℕ, suc, _+_, _-_, _/_, _%_, _^_}
+use mathlib.Core.Bool.{Bool, true, _&&_, cond}
+use mathlib.Core.List.{List, [], _∷_, _++_}
+use lib.Dec.{eqb, ltb}
+use lib.ListN.{getD, take}
+use Rattle.tally.specs.Tally.{span, all, count}
+use Rattle.rules.specs.Line.{isBlack, digits}
+use Rattle.rules.specs.Grid.{Line, across, down, line, lines, cell, Puzzle, keeps}
+use Rattle.rules.specs.Mark.{leftBlack, upperBlack}
+use Rattle.rules.specs.Number.{grids}
+
+-- A table says of each row, column and value whether the cell may still have the value. Values are those of marks: a digit, 8 and 9 the blacks of the
+-- cell's row, 10 and 11 the blacks of its column.
+abbrev pub Table : Type 0
+Table = ℕ → ℕ → ℕ → Bool
+
+-- The part of a table that a line has: place and value.
+abbrev pub Places : Type 0
+Places = ℕ → ℕ → Bool
+
+-- The places of a line.
+unfoldable pub places : Table → Line → Places
+places t (across r) i v = t r i v
+places t (down c) i v = t i c v
+
+-- The value of a line's first black; that of its second black is the next.
+unfoldable pub firstBlack : Line → ℕ
+firstBlack (across r) = leftBlack
+firstBlack (down c) = upperBlack
+
+-- The values of a half: the digits and the line's own blacks, the first of which is k.
+unfoldable pub half : ℕ → ℕ → List ℕ
+half n k = digits n ++ k ∷ suc k ∷ []
+
+-- All values of a cell.
+unfoldable pub everyValue : ℕ → List ℕ
+everyValue n = half n leftBlack ++ upperBlack ∷ suc upperBlack ∷ []
+
+-- The value that place i of a line of a grid has, if k is the line's first black.
+unfoldable pub own : ℕ → List ℕ → ℕ → ℕ
+own k l i = cond (isBlack (getD l i 0)) (k + count isBlack (take i l)) (getD l i 0)
+
+-- A grid fits a table: each cell's value in its row and its value in its column are candidates there.
+unfoldable pub fits : ℕ → Table → List ℕ → Bool
+fits n t g = all (λ ℓ. all (λ i. places t ℓ i (own (firstBlack ℓ) (line n g ℓ) i)) (span 0 n)) (lines n)
+
+-- How many grids keep a puzzle and fit a table.
+unfoldable pub left : Puzzle → Table → ℕ
+left p t = count (λ g. keeps p g && fits (p .size) t g) (grids (p .size))
+
+-- ---- a table as it is written: n * n masks, row by row
+
+-- The bit of a value: digit d is bit d, the blacks 8 to 11 are bits n - 1 to n + 2.
+unfoldable pub bitOf : ℕ → ℕ → ℕ
+bitOf n v = cond (ltb v 8) v (n + v - 9)
+
+-- The mask m has bit b.
+unfoldable pub hasBit : ℕ → ℕ → Bool
+hasBit m b = eqb (m / 2 ^ b % 2) 1
+
+-- The table that a list of masks stands for.
+unfoldable pub tableOf : ℕ → List ℕ → Table
+tableOf n masks r c v = hasBit (cell n masks r c) (bitOf n v)

@@ -1,0 +1,1 @@
+// Nothing to run: the crate holds the definitions of candidate tables, in specs/.
