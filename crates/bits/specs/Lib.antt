@@ -1,0 +1,4 @@
+pub mod Bit
+pub mod BitLaws
+pub mod Sum
+pub mod SumLaws

@@ -1,0 +1,13 @@
+-- Sums over a run of numbers. Assumes nothing.
+use Prim.Native.Nat.{ℕ, zero, suc, _+_}
+use mathlib.Core.Bool.{cond}
+use lib.Dec.{eqb}
+
+-- f a + f (a + 1) + .. , n of them.
+unfoldable pub sum : ℕ → ℕ → (ℕ → ℕ) → ℕ
+sum a zero f = 0
+sum a (suc n) f = sum a n f + f (a + n)
+
+-- 1 where a is b, else 0.
+unfoldable pub same : ℕ → ℕ → ℕ
+same a b = cond (eqb a b) 1 0

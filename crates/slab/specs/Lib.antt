@@ -1,0 +1,4 @@
+pub mod Slab
+pub mod SlabLaws
+pub mod StruckLaws
+pub mod ClearLaws
