@@ -1,14 +1,17 @@
 -- Strikes one after the other. Assumes nothing.
-use Prim.Native.Nat.{ℕ, _+_, _-_, _*_, _^_, _≤_, _<_}
+use Prim.Native.Nat.{ℕ, _+_, _-_, _*_, _/_, _%_, _≤_, _<_}
 use mathlib.Core.Path.{_≡_, refl, sym, ap, _∙_}
 use mathlib.Core.Logic.{_⊎_, inl, inr, ⊎-elim}
 use mathlib.Core.List.{List}
 use native.Mathlib.Omega.{arith}
 use native.Mathlib.Decide.{ℕ-discrete}
 use native.Mathlib.Nat.{le-trans}
-use lib.ListN.{length, getD}
-use Rattle.slab.specs.Slab.{cand, tail, entry, lag, left, Sized, Grown, Struck}
-use Rattle.slab.specs.SlabLaws.{cand-lt}
+use lib.ListN.{length, getD, set, length-set}
+use lib.Seq.{getD-set-other}
+use Rattle.bits.specs.Sum.{sum, same}
+use Rattle.bits.specs.SumLaws.{sum-same}
+use Rattle.slab.specs.Slab.{cand, tail, entry, waits, lag, left, Sized, Grown, Struck}
+use Rattle.slab.specs.SlabLaws.{cand-lt, cand-same}
 
 pub grown-refl : (l : List ℕ) → Grown l l
 grown-refl l =
@@ -59,3 +62,38 @@ struck-as s f g =
       only = λ x v h e z. f x v h (s .only x v h e z);
       rest = s .rest;
     }
+
+-- a counter that moves leaves the table and the queue
+module _ (l : List ℕ) (p k : ℕ) (s : Sized l) (h : 973 ≤ p) where
+  other : (i : ℕ) → i < 973 → getD (set l p k) i 0 ≡ getD l i 0
+  other i n = getD-set-other l p i k 0 (λ e. omega arith)
+
+  pub set-cand : (x v : ℕ) → cand (set l p k) x v ≡ cand l x v
+  set-cand x v = cand-same l (set l p k) (λ i n. other i (omega arith)) x v
+
+  set-tail : tail (set l p k) ≡ tail l
+  set-tail = other 972 (omega arith)
+
+  set-entry : (i : ℕ) → i < tail l → entry (set l p k) i ≡ entry l i
+  set-entry i n = other (81 + i) (omega (arith, s .room))
+
+  set-left : left (set l p k) ≡ left l
+  unfolding left
+  set-left = sum-same 0 1296 (λ i. cand (set l p k) (i / 16) (i % 16)) (λ i. cand l (i / 16) (i % 16)) (λ i a b. set-cand (i / 16) (i % 16))
+
+  set-waits : (j e : ℕ) → waits (set l p k) j e ≡ waits l j e
+  unfolding waits
+  set-waits j e =
+      rw set-tail (sum-same j (tail l - j) (λ i. same e (entry (set l p k) i)) (λ i. same e (entry l i)) (λ i a b. ap (same e) (set-entry i (omega arith))))
+
+  pub set-grown : Grown l (set l p k)
+  unfolding lag
+  set-grown =
+      record {
+        size = length-set l p k;
+        balance = omega (arith, set-tail, set-left);
+        grows = omega (arith, set-tail);
+        old = set-entry;
+        lags = λ j x v n m. omega (arith, set-cand x v, set-waits j (x * 16 + v));
+        sub = λ x v n. omega (arith, set-cand x v);
+      }
