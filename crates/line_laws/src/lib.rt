@@ -1,0 +1,1 @@
+// Nothing to run: the crate holds the laws of lines and arrangements, in specs/.
