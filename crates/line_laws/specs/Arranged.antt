@@ -13,8 +13,8 @@ use Rattle.tally.specs.Tally.{sum, any, span, keep, join}
 use Rattle.tally.specs.TallyLaws.{and-left, and-right, and-both, span-in, span-mem}
 use Rattle.rules.specs.Line.{digits, meets}
 use Rattle.rules.specs.Arrangement.{Arrangement, subsets, subsetsWith, fromStarts, insides, outsides, arrangements}
-use Rattle.table.specs.Table.{half}
-use Rattle.table.specs.Closed.{place, allows, Covers}
+use Rattle.table.specs.Table.{Places, half}
+use Rattle.table.specs.Closed.{place, allows, Live, Covers}
 use Rattle.line_laws.specs.Lists.{mem-keep, of-keep, mem-join, of-join, any-in}
 use Rattle.line_laws.specs.Subsets.{subset-mem}
 use Rattle.line_laws.specs.Half.{digit-range, digit-in, first-in, second-in}
@@ -200,6 +200,18 @@ first-within a = elim (a .isInside) as (λ b. cond b 0 (length (a .digitSet) + 1
 
 pub second-within : (a : Arrangement) → secondStep a < length (a .digitSet) + 2
 second-within a = elim (a .isInside) as (λ b. cond b (length (a .digitSet) + 1) 0 < length (a .digitSet) + 2) [ true ↦ omega arith | false ↦ omega arith ]
+
+-- A live arrangement still has its blacks.
+module _ (n k : ℕ) (m : Places) (a : Arrangement) (alive : Live n k m a) where
+  pub live-first : m (place n a (firstStep a)) k ≡ true
+  live-first =
+      let u = alive .live (firstStep a) (first-within a) in
+      subst (λ v. m (place n a (firstStep a)) v ≡ true) (eqb-true (u .0) k (sym (allows-first k a (u .0)) ∙ u .2)) (u .1)
+
+  pub live-second : m (place n a (secondStep a)) (suc k) ≡ true
+  live-second =
+      let u = alive .live (secondStep a) (second-within a) in
+      subst (λ v. m (place n a (secondStep a)) v ≡ true) (eqb-true (u .0) (suc k) (sym (allows-second k a (u .0)) ∙ u .2)) (u .1)
 
 -- What the pattern allows between the blacks is a digit of the set.
 pub mid-digit : (k : ℕ) (a : Arrangement) (j v : ℕ) → 0 < j → j < length (a .digitSet) + 1 → allows k a j v ≡ true → List·Memᴰ v (a .digitSet)

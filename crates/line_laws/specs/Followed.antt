@@ -85,8 +85,7 @@ module _ (n k t : ℕ) (l : List ℕ) (law : LawfulLine n l) (high : 8 ≤ k) (a
         suc (x .0),
         omega arith,
         omega (arith, x .1),
-        ap (own k l) (place-here n a (suc (x .0)) (omega (arith, x .1)) ∙ omega arith) ∙ own-mid p k (x .0) (x .1)
-            ∙ x .2,
+        ap (own k l) (place-here n a (suc (x .0)) (omega (arith, x .1)) ∙ omega arith) ∙ own-mid p k (x .0) (x .1) ∙ x .2,
       ) in
       let few : (d : ℕ) → List·Memᴰ d (digits n) → count (eqb d) (p .mid) ≤ 1 = λ d q. omega (arith, p .once d q) in
       (subst (λ x. meets t x ≡ true) (sym (line-sum p ∙ set-sum (p .mid) size stepped few)) e, set-stepped (p .mid) size stepped few)
@@ -104,21 +103,19 @@ module _ (n k t : ℕ) (l : List ℕ) (law : LawfulLine n l) (high : 8 ≤ k) (a
         x .0 + length (p .post) + 1,
         omega arith,
         omega (arith, x .1),
-        ap (own k l) (place-wrap n a (x .0 + length (p .post) + 1) (omega arith) ∙ omega arith)
-            ∙ own-pre p k (x .0) (x .1) ∙ x .2,
+        ap (own k l) (place-wrap n a (x .0 + length (p .post) + 1) (omega arith) ∙ omega arith) ∙ own-pre p k (x .0) (x .1) ∙ x .2,
       ) in
       let back : (c : ℕ) → List·Memᴰ c (p .post) → Stepped c = λ c q.
       let x = mem-place q in (
         suc (x .0),
         omega arith,
         omega (arith, x .1),
-        ap (own k l) (place-here n a (suc (x .0)) (omega (arith, x .1)) ∙ omega arith) ∙ own-post p k (x .0)
-            ∙ x .2,
+        ap (own k l) (place-here n a (suc (x .0)) (omega (arith, x .1)) ∙ omega arith) ∙ own-post p k (x .0) ∙ x .2,
       ) in
       let stepped : (c : ℕ) → List·Memᴰ c (p .pre ++ p .post) → Stepped c = λ c q. ⊎-elim (front c) (back c) (List·Memᴰ·append-cases (p .pre) q) in
       let few : (d : ℕ) → List·Memᴰ d (digits n) → count (eqb d) (p .pre ++ p .post) ≤ 1 = λ d q. omega (arith, p .once d q) in
-      let rest : lineSum l ≡ sum (digits n) - sum (a .digitSet) = line-sum p ∙ omega
-      (arith, sum-all p, set-sum (p .pre ++ p .post) size stepped few) in
+      let full = set-sum (p .pre ++ p .post) size stepped few in
+      let rest : lineSum l ≡ sum (digits n) - sum (a .digitSet) = line-sum p ∙ omega (arith, sum-all p) in
       (subst (λ x. meets t x ≡ true) (sym rest) e, set-stepped (p .pre ++ p .post) size stepped few)
 
   -- THE TARGET IS MET

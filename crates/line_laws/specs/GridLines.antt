@@ -42,7 +42,8 @@ line-map n g (down c) = refl
 
 pub line-cell : (n : ℕ) (g : List ℕ) (ℓ : Line) (i : ℕ) → i < n → getD (line n g ℓ) i 0 ≡ cell n g (rowOf ℓ i) (columnOf ℓ i)
 line-cell n g ℓ i h =
-    ap (λ l. getD l i 0) (line-map n g ℓ) ∙ map-at (λ i. cell n g (rowOf ℓ i) (columnOf ℓ i)) 0 n i h ∙ ap (λ x. cell n g (rowOf ℓ x) (columnOf ℓ x)) (omega arith)
+    ap (λ l. getD l i 0) (line-map n g ℓ) ∙ map-at (λ i. cell n g (rowOf ℓ i) (columnOf ℓ i)) 0 n i h ∙ ap (λ x. cell n g (rowOf ℓ x) (columnOf ℓ x))
+    (omega arith)
 
 pub places-cell : (t : Table) (ℓ : Line) (i v : ℕ) → places t ℓ i v ≡ t (rowOf ℓ i) (columnOf ℓ i) v
 unfolding places rowOf columnOf

@@ -85,7 +85,7 @@ module _ (n k : ℕ) (small : n ≤ 9) (two : 2 ≤ n) (high : 8 ≤ k) (v : ℕ
   cell-in b (a-second e) = List·Memᴰ·head (cell-black b (omega arith))
 
   -- THE LINE IS LAWFUL
-  pub apart-lawful : LawfulLine n (lineOf n v)
+  apart-lawful : LawfulLine n (lineOf n v)
   unfolding lineOf lawful
   apart-lawful =
       record {
@@ -116,7 +116,7 @@ module _ (n k : ℕ) (small : n ≤ 9) (two : 2 ≤ n) (high : 8 ≤ k) (v : ℕ
   at-black i h g = eq-eqb _ 255 (line-at i h ∙ cell-black (v i) g)
 
   -- With the first black in front of the second, the places of the line have these values.
-  pub apart-own : (p q : ℕ) → p < q → q < n → v p ≡ k → v q ≡ suc k → (i : ℕ) → i < n → own k (lineOf n v) i ≡ v i
+  apart-own : (p q : ℕ) → p < q → q < n → v p ≡ k → v q ≡ suc k → (i : ℕ) → i < n → own k (lineOf n v) i ≡ v i
   unfolding own
   apart-own p q lt qn ep eq i h = go (half-value n k (v i) (known i h))
     where
