@@ -1,0 +1,48 @@
+-- What it means that the engine answers as a record says: the record has what the definitions give. Assumes nothing.
+use Prim.Native.Nat.{ℕ, _≤_}
+use mathlib.Core.Path.{_≡_}
+use mathlib.Core.Bool.{Bool, true, cond}
+use mathlib.Core.List.{List, [], _∷_}
+use lib.Dec.{eqb}
+use lib.ListN.{length}
+use Rattle.rules.specs.Sums.{Sums, targetSums}
+use Rattle.puzzle.specs.Given.{puzzle}
+use Rattle.marking.specs.Answer.{markSheet}
+use Rattle.doppelblock.specs.Number.{sheetNumber}
+use Rattle.replay_records.specs.Fields.{field, sizeOf, tag}
+
+-- A test is true exactly where a statement holds.
+pub record Says (r : Bool) (P : Type 0) : Type 0 where
+  pub sound : r ≡ true → P
+  pub complete : P → r ≡ true
+
+-- The record has this number and these target slices.
+pub record SumsRecorded (number : ℕ) (rows columns : List ℕ) (xs : List ℕ) : Type 0 where
+  pub answer-is : field xs 4 ≡ number ∷ []
+  pub rows-are : field xs 5 ≡ rows
+  pub columns-are : field xs 6 ≡ columns
+
+-- The record has what a definition gives.
+abbrev pub SumsAs : Sums → List ℕ → Type 0
+SumsAs given xs = SumsRecorded (given .number) (given .rows) (given .columns) xs
+
+-- The record has the target sums of its size and cells, where the target slices hold these bytes to begin with.
+abbrev pub SumsFrom : List ℕ → List ℕ → List ℕ → Type 0
+SumsFrom rows columns xs = SumsAs (targetSums (sizeOf xs) (field xs 1) rows columns) xs
+
+-- A record of target sums is right, and its target slices fit the buffers that it is replayed with.
+pub record SumsAgree (xs : List ℕ) : Type 0 where
+  pub rows-fit : length (field xs 2) ≤ 256
+  pub columns-fit : length (field xs 3) ≤ 256
+  pub sums-are : SumsFrom (field xs 2) (field xs 3) xs
+
+-- A record of a marked sheet is right.
+abbrev pub SheetAgrees : List ℕ → Type 0
+SheetAgrees xs = field xs 4 ≡ sheetNumber (markSheet (puzzle (sizeOf xs) (field xs 1) (field xs 2)) (field xs 3)) ∷ []
+
+-- A record is right, by its tag.
+unfoldable pub AgreesAs : ℕ → List ℕ → Type 0
+AgreesAs t xs = cond (eqb t 1) (SumsAgree xs) (cond (eqb t 2) (SheetAgrees xs) ⊥)
+
+abbrev pub Agrees : List ℕ → Type 0
+Agrees xs = AgreesAs (tag xs) xs

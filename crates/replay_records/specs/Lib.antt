@@ -1,0 +1,6 @@
+pub mod Fields
+pub mod FieldLaws
+pub mod Agreement
+pub mod AgreementLaws
+pub mod Replay
+pub mod ReplayLaws

@@ -1,0 +1,59 @@
+-- A list of answers, record by record: what replaying finds and counts. Assumes nothing.
+use Prim.Native.Nat.{ℕ, _+_, _≤_, _<_}
+use mathlib.Core.Path.{_≡_}
+use mathlib.Core.Bool.{Bool, true, _&&_, not, cond}
+use mathlib.Core.List.{List, []}
+use lib.Dec.{leb}
+use lib.ListN.{length, drop}
+use Rattle.replay_records.specs.declared.Outcome.{Outcome}
+use Rattle.replay_records.specs.declared.Tally.{Tally}
+use Rattle.replay_records.specs.Fields.{tag, readable, recordLength}
+use Rattle.replay_records.specs.Agreement.{Says, Agrees}
+
+-- The tag of the first record, or 0 where none can be read.
+abbrev pub kind : List ℕ → ℕ
+kind xs = cond (readable xs) (tag xs) 0
+
+-- How many bytes are passed over: the first record, or the whole list where none can be read.
+abbrev pub step : List ℕ → ℕ
+step xs = cond (readable xs) (recordLength xs) (length xs)
+
+-- The first record can be read and is right.
+abbrev pub Right : List ℕ → Type 0
+Right xs = (readable xs ≡ true) × Agrees xs
+
+-- What replaying the first record of a list gives. The bounds follow from the length.
+pub record Replayed (xs : List ℕ) (o : Outcome) : Type 0 where
+  pub kind-is : o .kind ≡ kind xs
+  pub length-is : o .length ≡ step xs
+  pub within : o .length ≤ length xs
+  pub onward : 0 < length xs → 0 < o .length
+  pub agrees-is : Says (o .agrees) (Right xs)
+
+-- A kind from first to last is counted.
+abbrev pub counted : ℕ → ℕ → ℕ → Bool
+counted first last k = leb first k && leb k last
+
+-- 1 for yes, 0 for no.
+abbrev pub one : Bool → ℕ
+one b = cond b 1 0
+
+-- A tally with one more record. The bounds follow from the numbers.
+pub record Added (first last : ℕ) (t : Tally) (o : Outcome) (r : Tally) : Type 0 where
+  pub replayed-is : r .replayed ≡ t .replayed + one (counted first last (o .kind))
+  pub differ-is : r .differ ≡ t .differ + one (counted first last (o .kind) && not (o .agrees))
+  pub replayed-most : r .replayed ≤ t .replayed + 1
+  pub differ-most : r .differ ≤ t .differ + 1
+
+-- Of the records of a list whose kind is from first to last, there are some number, and some number of these are not right.
+pub data Tallied (first last : ℕ) : ℕ → ℕ → List ℕ → Type 0 where
+  none : Tallied first last 0 0 []
+  more :
+      {k d : ℕ} {xs : List ℕ} {agrees : Bool} → 0 < length xs → Says agrees (Right xs) → Tallied first last k d (drop (step xs) xs)
+      → Tallied first last (one (counted first last (kind xs)) + k) (one (counted first last (kind xs) && not agrees) + d) xs
+
+-- Where the first record of a list begins that is not right; the end of the list where all are right.
+pub data FirstDifference : ℕ → List ℕ → Type 0 where
+  at-end : FirstDifference 0 []
+  here : {xs : List ℕ} → 0 < length xs → (Right xs → ⊥) → FirstDifference 0 xs
+  later : {k : ℕ} {xs : List ℕ} → 0 < length xs → Right xs → FirstDifference k (drop (step xs) xs) → FirstDifference (step xs + k) xs
