@@ -1,0 +1,80 @@
+-- `arcs::kill` meets its contract. Assumes nothing.
+use mathlib.Core.Path.{refl}
+use native.Mathlib.Omega.{arith}
+use Rattle.arcs.specs.KillLaws.{kill-black, kill-from, kill-to, kill-first, kill-inner, kill-last, kill-end}
+use borrow.Author.Needs.{needs}
+use Rattle.arcs.proofs.kill.Statement.{statement}
+use Rattle.arcs.proofs.kill.Tie as tie
+
+from-of-requires : tie.Need-from-of-requires
+from-of-requires c κs = search needs
+
+to-of-requires : tie.Need-to-of-requires
+to-of-requires c κs = search needs
+
+mul-drop-support : tie.Need-mul-drop-support
+mul-drop-support c = omega (arith, kill-from (c .before .before .before .before .pre) _ (c .before .before .from-of .ensures))
+
+add-drop-support : tie.Need-add-drop-support
+add-drop-support c = omega (arith, kill-from (c .before .before .before .before .pre) _ (c .before .before .from-of .ensures))
+
+mul-drop-support-2 : tie.Need-mul-drop-support-2
+mul-drop-support-2 c = omega (arith, kill-from (c .before .before .before .before .pre) _ (c .before .before .from-of .ensures))
+
+add-drop-support-2 : tie.Need-add-drop-support-2
+add-drop-support-2 c = omega (arith, kill-from (c .before .before .before .before .pre) _ (c .before .before .from-of .ensures))
+
+head-of-requires : tie.Need-head-of-requires
+head-of-requires c κs = kill-black (c .before .before .before .before .pre)
+
+drop-support-requires : tie.Need-drop-support-requires
+drop-support-requires c κs = kill-first (c .before .before .before .before .before .pre) _ _ _ (c .before .before .before .from-of .ensures) refl (c .head-of .ensures)
+
+drop-inner-requires : tie.Need-drop-inner-requires
+drop-inner-requires c κs = kill-inner (c .before .before .before .before .before .before .before .before .before .pre) _ _ (c .before .before .before .before .before .before .before .from-of .ensures) (c .before .before .before .drop-support .ensures)
+
+mul-drop-support-3 : tie.Need-mul-drop-support-3
+mul-drop-support-3 c = omega (arith, kill-to (c .before .before .before .before .before .before .before .before .before .before .before .before .before .pre) _ (c .before .before .before .before .before .before .before .before .before .before .to-of .ensures))
+
+add-drop-support-3 : tie.Need-add-drop-support-3
+add-drop-support-3 c = omega (arith, kill-to (c .before .before .before .before .before .before .before .before .before .before .before .before .before .pre) _ (c .before .before .before .before .before .before .before .before .before .before .to-of .ensures))
+
+mul-drop-support-4 : tie.Need-mul-drop-support-4
+mul-drop-support-4 c = omega (arith, kill-to (c .before .before .before .before .before .before .before .before .before .before .before .before .before .pre) _ (c .before .before .before .before .before .before .before .before .before .before .to-of .ensures))
+
+add-drop-support-4 : tie.Need-add-drop-support-4
+add-drop-support-4 c = omega (arith, kill-to (c .before .before .before .before .before .before .before .before .before .before .before .before .before .pre) _ (c .before .before .before .before .before .before .before .before .before .before .to-of .ensures))
+
+last-of-requires : tie.Need-last-of-requires
+last-of-requires c κs = kill-black (c .before .before .before .before .before .before .before .before .before .before .before .before .before .pre)
+
+drop-support-requires-2 : tie.Need-drop-support-requires-2
+drop-support-requires-2 c κs = kill-last (c .before .before .before .before .before .before .before .before .before .before .before .before .before .before .pre) _ _ (c .before .before .before .before .before .before .before .before .before .before .before .before .from-of .ensures) (c .before .before .before .before .before .before .before .before .drop-support .ensures) (c .before .before .before .before .drop-inner .ensures) _ _ _ (c .before .before .before .before .before .before .before .before .before .before .before .to-of .ensures) refl (c .last-of .ensures)
+
+same-length : tie.Need-same-length
+same-length c = search needs
+
+returns : tie.Need-returns
+returns c = kill-end (c .before .before .before .before .before .before .before .before .before .before .before .before .before .before .before .before .before .pre) _ _ (c .before .before .before .before .before .before .before .before .before .before .before .before .before .before .before .from-of .ensures) (c .before .before .before .before .before .before .before .before .before .before .before .drop-support .ensures) (c .before .before .before .before .before .before .before .drop-inner .ensures) _ _ (c .before .before .before .before .before .before .before .before .before .before .before .before .before .before .to-of .ensures) (c .before .before .before .before .before .before .before .before .before .before .before .before .head-of .ensures) (c .before .before .before .last-of .ensures) (c .before .before .drop-support2 .ensures)
+
+pub kill-spec : {M : Type 1} → statement M
+kill-spec =
+    tie.close
+    (tie.spec
+    from-of-requires
+    to-of-requires
+    mul-drop-support
+    add-drop-support
+    mul-drop-support-2
+    add-drop-support-2
+    head-of-requires
+    drop-support-requires
+    drop-inner-requires
+    mul-drop-support-3
+    add-drop-support-3
+    mul-drop-support-4
+    add-drop-support-4
+    last-of-requires
+    drop-support-requires-2
+    same-length
+    returns)

@@ -1,0 +1,27 @@
+-- The tests of the sweep for a digit: which places of the line still have it, and whether an arrangement outlives the strike. Assumes nothing.
+use Prim.Native.Nat.{ℕ, _+_, _*_, _≤_, _<_}
+use mathlib.Core.Path.{_≡_}
+use mathlib.Core.Logic.{_⊎_}
+use mathlib.Core.Bool.{Bool, true, false}
+use mathlib.Core.List.{List}
+use lib.Bits.{bitAnd}
+use lib.ListN.{length, getD}
+use Rattle.bits.specs.Bit.{bit}
+use Rattle.words.specs.Word.{setOf, coveredOf}
+
+-- A line of n places, from its start on.
+pub record HaveAsk (n start stride v : ℕ) (l : List ℕ) : Type 0 where
+  pub size : length l ≡ 5599
+  pub high : n ≤ 9
+  pub narrow : v < 16
+  pub cells : (q : ℕ) → q < 9 → start + q * stride < 81
+
+-- Every place before p that has the value v is in the mask have.
+unfoldable pub Have : ℕ → ℕ → ℕ → List ℕ → ℕ → ℕ → Type 0
+Have start stride v l p have = (q : ℕ) → q < p → bit v (getD l (start + q * stride) 0) ≤ bit q have
+
+-- An arrangement is kept if it has not the struck digit at the struck place, or the cell has another digit of its set; one that goes has the digit there,
+-- and no place that has the digit, or no digit of its set in the cell.
+pub record Tested (w test have cands : ℕ) (r : Bool) : Type 0 where
+  pub keeps : r ≡ true → (bitAnd w test ≡ test → ⊥) ⊎ ((bitAnd w test ≡ test) × (bitAnd cands (setOf w) ≡ 0 → ⊥))
+  pub drops : r ≡ false → (bitAnd w test ≡ test) × ((bitAnd (coveredOf w) have ≡ 0) ⊎ (bitAnd cands (setOf w) ≡ 0))

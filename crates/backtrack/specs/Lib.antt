@@ -1,0 +1,4 @@
+pub mod Search
+pub mod AdvanceLaws
+pub mod BranchLaws
+pub mod SearchLaws

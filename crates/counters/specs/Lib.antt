@@ -1,0 +1,5 @@
+pub mod Counters
+pub mod CounterLaws
+pub mod Families
+pub mod Lines
+pub mod Closure

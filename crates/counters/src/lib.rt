@@ -1,0 +1,1 @@
+// Nothing to run: the crate holds the theory of the solver's counters, in specs/.

@@ -1,0 +1,4 @@
+pub mod Choice
+pub mod ChoiceLaws
+pub mod Scanning
+pub mod ValueLaws

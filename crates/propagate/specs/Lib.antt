@@ -1,0 +1,5 @@
+pub mod Flow
+pub mod Update
+pub mod UpdateLaws
+pub mod Loop
+pub mod Rest

@@ -1,0 +1,5 @@
+pub mod MaskBits
+pub mod Run
+pub mod Setting
+pub mod SettingLaws
+pub mod SetLaws

@@ -1,0 +1,103 @@
+// Setting a cell to a value strikes what the rules of the puzzle then leave out (in the Rust: set_cell).
+use slab::clear_mask;
+use slab::clear_value;
+ghost use mathlib.Core.Path.{_≡_};
+ghost use Prim.Native.Nat.{_≤_, _<_};
+ghost use Rattle.table.specs.Steps.{inRow, inColumn};
+ghost use Rattle.slab.specs.Slab.{Struck};
+ghost use Rattle.set_cell.specs.Run.{Run, Sides, RunAsk, SidesAsk};
+ghost use Rattle.set_cell.specs.Setting.{SetHit, SetAsk, RowOthers, ColumnOthers, BlacksAround, RestOfHalf};
+
+// A value of the row half: a digit or a row black.
+pub fn in_row(v: usize) -> bool
+    ensures { λ r. ⌜ r ≡ inRow v ⌝ }
+{
+    v < 10
+}
+
+// A value of the column half: a digit or a column black.
+pub fn in_column(v: usize) -> bool
+    ensures { λ r. ⌜ r ≡ inColumn v ⌝ }
+{
+    if v < 8 {
+        return true;
+    }
+    10 <= v
+}
+
+// Strikes v at the places from a to b - 1 of a line.
+fn clear_run(st: &mut [u16], start: usize, stride: usize, a: usize, b: usize, v: usize)
+    requires { ⌜ RunAsk (now st) start stride a b v ⌝ }
+    ensures { λ _. ⌜ Struck (now (st .entry)) (now (st .exit)) (Run start stride a b v) ⌝ }
+{
+    let mut p = a;
+    while p < b {
+        clear_value(st, start + p * stride, v);
+        p += 1;
+    }
+}
+
+// Strikes u before place i of a line of n, and v behind it.
+fn clear_sides(st: &mut [u16], n: usize, start: usize, stride: usize, i: usize, u: usize, v: usize)
+    requires { ⌜ SidesAsk (now st) n start stride i u v ⌝ }
+    ensures { λ _. ⌜ Struck (now (st .entry)) (now (st .exit)) (Sides start stride n i u v) ⌝ }
+{
+    clear_run(st, start, stride, 0, i, u);
+    clear_run(st, start, stride, i + 1, n, v);
+}
+
+// Strikes v elsewhere in the row, if it is a value of the row half.
+fn clear_row(st: &mut [u16], n: usize, r: usize, c: usize, v: usize)
+    requires { ⌜ SetAsk n (now st) r c v ⌝ }
+    ensures { λ _. ⌜ Struck (now (st .entry)) (now (st .exit)) (RowOthers n r c v) ⌝ }
+{
+    if in_row(v) {
+        clear_sides(st, n, r * 9, 1, c, v, v);
+    }
+}
+
+// Strikes v elsewhere in the column, if it is a value of the column half.
+fn clear_column(st: &mut [u16], n: usize, r: usize, c: usize, v: usize)
+    requires { ⌜ SetAsk n (now st) r c v ⌝ }
+    ensures { λ _. ⌜ Struck (now (st .entry)) (now (st .exit)) (ColumnOthers n r c v) ⌝ }
+{
+    if in_column(v) {
+        clear_sides(st, n, c, 9, r, v, v);
+    }
+}
+
+// Strikes the blacks that a black leaves out: second blacks before it and first blacks behind it, in the row and in the column.
+fn clear_around(st: &mut [u16], n: usize, r: usize, c: usize, v: usize)
+    requires { ⌜ SetAsk n (now st) r c v ⌝ }
+    ensures { λ _. ⌜ Struck (now (st .entry)) (now (st .exit)) (BlacksAround n r c v) ⌝ }
+{
+    if 8 <= v {
+        clear_sides(st, n, r * 9, 1, c, 9, 8);
+        clear_sides(st, n, c, 9, r, 11, 10);
+    }
+}
+
+// The other values of the half of v; of a digit, of both halves.
+fn rest_of_half(v: usize) -> u16
+    requires { ⌜ (1 ≤ v) × (v < 12) ⌝ }
+    ensures { λ m. ⌜ RestOfHalf v m ⌝ }
+{
+    if v < 8 {
+        return 4094 - (1u16 << v);
+    }
+    if v < 10 {
+        return 1022 - (1u16 << v);
+    }
+    3326 - (1u16 << v)
+}
+
+// Sets the cell of row r and column c to v.
+pub fn set_cell(st: &mut [u16], n: usize, r: usize, c: usize, v: usize)
+    requires { ⌜ SetAsk n (now st) r c v ⌝ }
+    ensures { λ _. ⌜ Struck (now (st .entry)) (now (st .exit)) (SetHit r c v) ⌝ }
+{
+    clear_row(st, n, r, c, v);
+    clear_column(st, n, r, c, v);
+    clear_mask(st, r * 9 + c, rest_of_half(v));
+    clear_around(st, n, r, c, v);
+}

@@ -1,0 +1,174 @@
+-- What a handler of a strike asks and gives. Assumes nothing.
+use Prim.Native.Nat.{ℕ, _+_, _*_, _/_, _%_, _≤_, _<_}
+use mathlib.Core.Path.{_≡_}
+use mathlib.Core.Bool.{Bool, _&&_}
+use mathlib.Core.List.{List}
+use native.Mathlib.Omega.{arith}
+use lib.Dec.{leb, ltb}
+use lib.ListN.{length}
+use Rattle.rules.specs.Grid.{Line, across, down, index}
+use Rattle.slab.specs.Slab.{cand, Grown}
+use Rattle.slab.specs.Ready.{ValueOf, Ready, ready-grown, Next, next-grown, Moved}
+use Rattle.set_cell.specs.Run.{Inside}
+use Rattle.counters.specs.Counters.{inLine, halvesBase, placesBase, blacksBase, ownBlack, HalvesOf, PlacesOf, BlacksOf, Halves, LinePlaces, Blacks}
+use Rattle.counters.specs.CounterLaws.{next-valid}
+use Rattle.counters.specs.Lines.{cellOf}
+use Rattle.singles.specs.Reasons.{Steps}
+
+-- The strike at h, of the value v of the cell of row r and column c, is handled.
+pub record Handling (n : ℕ) (l : List ℕ) (r c v h : ℕ) : Type 0 where
+  pub ready : Ready n l
+  pub row : r < n
+  pub column : c < n
+  pub value : ValueOf n v
+  pub next : Next l h (r * 9 + c) v
+
+-- the next strike of the queue is one
+pub handling : {n h x v : ℕ} {l : List ℕ} → Ready n l → Next l h x v → v < 16 → Handling n l (x / 9) (x % 9) v h
+handling {x = x} r k m =
+    let u = next-valid r k m in
+    let e : x / 9 * 9 + x % 9 ≡ x = omega arith in
+    record { ready = r; row = u .row; column = u .column; value = u .value; next = rw e k }
+
+pub handling-grown : {n r c v h : ℕ} {l l′ : List ℕ} → Grown l l′ → Handling n l r c v h → Handling n l′ r c v h
+handling-grown g a = record { ready = ready-grown g (a .ready); row = a .row; column = a .column; value = a .value; next = next-grown g (a .next) }
+
+-- another strike of the same candidate
+pub handling-at : {n r c v h : ℕ} {l : List ℕ} → Handling n l r c v h → (k : ℕ) → Next l k (r * 9 + c) v → Handling n l r c v k
+handling-at a k x = record { ready = a .ready; row = a .row; column = a .column; value = a .value; next = x }
+
+pub handling-cell : {n r c v h : ℕ} {l : List ℕ} → Handling n l r c v h → r * 9 + c < 81
+handling-cell a = omega (arith, a .row, a .column, a .ready .size .high)
+
+-- ---- halves
+
+-- The mask of a line's half.
+abbrev pub halfMask : Line → ℕ
+halfMask (across r) = 1022
+halfMask (down c) = 3326
+
+-- The half of place i of a line: its counter and mask, and the strike of v that its counters have next.
+pub record HalfAt (n : ℕ) (l : List ℕ) (own : Bool) (counter x mask : ℕ) (ℓ : Line) (i h v : ℕ) : Type 0 where
+  pub line : index ℓ < n
+  pub place : i < n
+  pub there : x ≡ cellOf ℓ i
+  pub at-counter : counter ≡ halvesBase ℓ + x
+  pub at-mask : mask ≡ halfMask ℓ
+  pub value : ValueOf n v
+  pub owned : own ≡ inLine ℓ v
+  pub next : Next l h x v
+  pub halves : HalvesOf ℓ n l h
+
+pub record HalfAsk (n : ℕ) (l : List ℕ) (own : Bool) (counter x mask : ℕ) : Type 0 where
+  pub ready : Ready n l
+  pub line : Line
+  pub place : ℕ
+  pub head : ℕ
+  pub value : ℕ
+  pub half : HalfAt n l own counter x mask line place head value
+
+pub record HalfDone (n : ℕ) (l l′ : List ℕ) (own : Bool) (counter x mask : ℕ) : Type 0 where
+  pub moved : Moved l l′ counter (counter + 1)
+  pub steps : Steps n l l′
+  pub halves : (ℓ : Line) (i h v : ℕ) → HalfAt n l own counter x mask ℓ i h v → HalvesOf ℓ n l′ (h + 1)
+
+pub record SingletonAsk (n : ℕ) (l : List ℕ) (r c v : ℕ) : Type 0 where
+  pub head : ℕ
+  pub strike : Handling n l r c v head
+  pub halves : Halves n l head
+
+pub record SingletonDone (n : ℕ) (l l′ : List ℕ) (r c v : ℕ) : Type 0 where
+  pub moved : Moved l l′ 973 1135
+  pub steps : Steps n l l′
+  pub halves : (h : ℕ) → Next l h (r * 9 + c) v → Halves n l h → Halves n l′ (h + 1)
+
+-- ---- places in a line
+
+pub record FindAsk (l : List ℕ) (n start stride v : ℕ) : Type 0 where
+  pub size : length l ≡ 5599
+  pub value : v < 16
+  pub cells : Inside start stride n
+
+-- The first place of the line that has the candidate v, or n.
+pub record Found (l : List ℕ) (n start stride v p : ℕ) : Type 0 where
+  pub here : p < n → cand l (start + p * stride) v ≡ 1
+  pub none : n ≤ p → (j : ℕ) → j < n → cand l (start + j * stride) v ≡ 0
+
+-- A line by its start and stride, the counter of v in it, and the strike of v at place i that its counters have next.
+pub record PlacesAt (n : ℕ) (l : List ℕ) (own : Bool) (counter start stride v : ℕ) (ℓ : Line) (i h : ℕ) : Type 0 where
+  pub line : index ℓ < n
+  pub place : i < n
+  pub along : (j : ℕ) → start + j * stride ≡ cellOf ℓ j
+  pub at-counter : counter ≡ placesBase ℓ + (index ℓ * 16 + v)
+  pub value : ValueOf n v
+  pub owned : own ≡ inLine ℓ v
+  pub next : Next l h (cellOf ℓ i) v
+  pub places : PlacesOf ℓ n l h
+
+pub record PlacesAsk (n : ℕ) (l : List ℕ) (own : Bool) (counter start stride v : ℕ) : Type 0 where
+  pub ready : Ready n l
+  pub line : Line
+  pub place : ℕ
+  pub head : ℕ
+  pub counted : PlacesAt n l own counter start stride v line place head
+
+pub record PlacesDone (n : ℕ) (l l′ : List ℕ) (own : Bool) (counter start stride v : ℕ) : Type 0 where
+  pub moved : Moved l l′ counter (counter + 1)
+  pub steps : Steps n l l′
+  pub places : (ℓ : Line) (i h : ℕ) → PlacesAt n l own counter start stride v ℓ i h → PlacesOf ℓ n l′ (h + 1)
+
+pub record HiddenAsk (n : ℕ) (l : List ℕ) (r c v : ℕ) : Type 0 where
+  pub head : ℕ
+  pub strike : Handling n l r c v head
+  pub places : LinePlaces n l head
+
+pub record HiddenDone (n : ℕ) (l l′ : List ℕ) (r c v : ℕ) : Type 0 where
+  pub moved : Moved l l′ 1135 1423
+  pub steps : Steps n l l′
+  pub places : (h : ℕ) → Next l h (r * 9 + c) v → LinePlaces n l h → LinePlaces n l′ (h + 1)
+
+-- ---- blacks of a cell
+
+-- One of the blacks k and k + 1.
+abbrev pub blackOf : ℕ → ℕ → Bool
+blackOf k v = leb k v && ltb v (k + 2)
+
+-- The mask of the blacks of the line across.
+abbrev pub crossMask : Line → ℕ
+crossMask (across r) = 3072
+crossMask (down c) = 768
+
+-- The blacks of place i of a line: their counter, the mask of the others, and the strike of v that their counters have next.
+pub record BlacksAt (n : ℕ) (l : List ℕ) (own : Bool) (counter x mask : ℕ) (ℓ : Line) (i h v : ℕ) : Type 0 where
+  pub line : index ℓ < n
+  pub place : i < n
+  pub there : x ≡ cellOf ℓ i
+  pub at-counter : counter ≡ blacksBase ℓ + x
+  pub at-mask : mask ≡ crossMask ℓ
+  pub value : ValueOf n v
+  pub owned : own ≡ blackOf (ownBlack ℓ) v
+  pub next : Next l h x v
+  pub blacks : BlacksOf ℓ n l h
+
+pub record BlacksAsk (n : ℕ) (l : List ℕ) (own : Bool) (counter x mask : ℕ) : Type 0 where
+  pub ready : Ready n l
+  pub line : Line
+  pub place : ℕ
+  pub head : ℕ
+  pub value : ℕ
+  pub counted : BlacksAt n l own counter x mask line place head value
+
+pub record BlacksDone (n : ℕ) (l l′ : List ℕ) (own : Bool) (counter x mask : ℕ) : Type 0 where
+  pub moved : Moved l l′ counter (counter + 1)
+  pub steps : Steps n l l′
+  pub blacks : (ℓ : Line) (i h v : ℕ) → BlacksAt n l own counter x mask ℓ i h v → BlacksOf ℓ n l′ (h + 1)
+
+pub record ConsistencyAsk (n : ℕ) (l : List ℕ) (r c v : ℕ) : Type 0 where
+  pub head : ℕ
+  pub strike : Handling n l r c v head
+  pub blacks : Blacks n l head
+
+pub record ConsistencyDone (n : ℕ) (l l′ : List ℕ) (r c v : ℕ) : Type 0 where
+  pub moved : Moved l l′ 1423 1585
+  pub steps : Steps n l l′
+  pub blacks : (h : ℕ) → Next l h (r * 9 + c) v → Blacks n l h → Blacks n l′ (h + 1)

@@ -1,0 +1,4 @@
+pub mod Published
+pub mod RowLaws
+pub mod MaskLaws
+pub mod CellLaws
