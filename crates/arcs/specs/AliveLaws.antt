@@ -35,7 +35,8 @@ alive-kept n ℓ id h g b f p v hp hv e =
     record { value = s .value; narrow = s .narrow; allowed = s .allowed; lags = omega (arith, s .lags, g .lags h (cellAt ℓ p) (s .value) b (s .narrow)) }
 
 -- handling a strike leaves it alive, if it outlives the strike where it has the cell
-pub alive-next : {n ℓ id : ℕ} {l : List ℕ} {h x v : ℕ} → Next l h x v → v < 16 → ((q : ℕ) → q < n → x ≡ cellAt ℓ q → Kept n ℓ l q v id) → Alive n ℓ l h id → Alive n ℓ l (h + 1) id
+pub alive-next : {n ℓ id : ℕ} {l : List ℕ} {h x v : ℕ} → Next l h x v → v < 16 → ((q : ℕ) → q < n → x ≡ cellAt ℓ q → Kept n ℓ l q v id) →
+    Alive n ℓ l h id → Alive n ℓ l (h + 1) id
 unfolding Alive lag
 alive-next {n} {ℓ} {id} {l} {h} {x} {v} nx hv k f p u hp hu e = go (f p u hp hu e) (ℕ-discrete x (cellAt ℓ p))
   where
@@ -126,25 +127,30 @@ holding-same {n} {m} {l} {l′} {K} s c h g =
     }
 
 -- a dead arrangement that leaves is none of those that hold them
-pub holding-drop : {n ℓ i m len : ℕ} {l l′ : List ℕ} {K : ℕ → ℕ → Bool} → Size n → len ≤ 78 → len ≡ m + 1 → i ≤ m → Dead n ℓ l (live l ℓ i) → Removed n ℓ i m l l′ →
+pub holding-drop : {n ℓ i m len : ℕ} {l l′ : List ℕ} {K : ℕ → ℕ → Bool} → Size n → len ≤ 78 → len ≡ m + 1 → i ≤ m → Dead n ℓ l (live l ℓ i) →
+    Removed n ℓ i m l l′ →
     Holding n ℓ len l K → Holding n ℓ m l′ K
 unfolding Held
 holding-drop {n} {ℓ} {i} {m} {len} {l} {l′} {K} z room e h d r g = record { has = λ x v b c. still x v b c (ℕ-discrete (cand l′ x v) 0); uses = uses }
   where
     uses : (p v : ℕ) → p < n → v < 16 → InHalf (blackAt ℓ) v → K (cellAt ℓ p) v ≡ true →
-        (j : ℕ) × (j < m) × (part (blackAt ℓ) (wordOf n (live l′ ℓ j)) p v ≡ 1) × ((t : List ℕ) → ((x v : ℕ) → v < 16 → K x v ≡ true → cand t x v ≡ 1) → Dead n ℓ t (live l′ ℓ j) → ⊥)
+        (j : ℕ) × (j < m) × (part (blackAt ℓ) (wordOf n (live l′ ℓ j)) p v ≡ 1)
+        × ((t : List ℕ) → ((x v : ℕ) → v < 16 → K x v ≡ true → cand t x v ≡ 1) → Dead n ℓ t (live l′ ℓ j) → ⊥)
     uses p v a b c k = go (g .uses p v a b c k)
       where
         at : (j o : ℕ) → j < m → live l ℓ o ≡ live l′ ℓ j → part (blackAt ℓ) (wordOf n (live l ℓ o)) p v ≡ 1 → Held n ℓ K (live l ℓ o) →
-            (j : ℕ) × (j < m) × (part (blackAt ℓ) (wordOf n (live l′ ℓ j)) p v ≡ 1) × ((t : List ℕ) → ((x v : ℕ) → v < 16 → K x v ≡ true → cand t x v ≡ 1) → Dead n ℓ t (live l′ ℓ j) → ⊥)
+            (j : ℕ) × (j < m) × (part (blackAt ℓ) (wordOf n (live l′ ℓ j)) p v ≡ 1)
+            × ((t : List ℕ) → ((x v : ℕ) → v < 16 → K x v ≡ true → cand t x v ≡ 1) → Dead n ℓ t (live l′ ℓ j) → ⊥)
         at j o b q s t = (j, b, subst (λ id. part (blackAt ℓ) (wordOf n id) p v ≡ 1) q s, subst (Held n ℓ K) q t)
 
         go : (j : ℕ) × (j < len) × (part (blackAt ℓ) (wordOf n (live l ℓ j)) p v ≡ 1) × Held n ℓ K (live l ℓ j) →
-            (j : ℕ) × (j < m) × (part (blackAt ℓ) (wordOf n (live l′ ℓ j)) p v ≡ 1) × ((t : List ℕ) → ((x v : ℕ) → v < 16 → K x v ≡ true → cand t x v ≡ 1) → Dead n ℓ t (live l′ ℓ j) → ⊥)
+            (j : ℕ) × (j < m) × (part (blackAt ℓ) (wordOf n (live l′ ℓ j)) p v ≡ 1)
+            × ((t : List ℕ) → ((x v : ℕ) → v < 16 → K x v ≡ true → cand t x v ≡ 1) → Dead n ℓ t (live l′ ℓ j) → ⊥)
         go u = pick (ℕ-discrete (u .0) i) (ℕ-discrete (u .0) m)
           where
             pick : Dec (u .0 ≡ i) → Dec (u .0 ≡ m) →
-                (j : ℕ) × (j < m) × (part (blackAt ℓ) (wordOf n (live l′ ℓ j)) p v ≡ 1) × ((t : List ℕ) → ((x v : ℕ) → v < 16 → K x v ≡ true → cand t x v ≡ 1) → Dead n ℓ t (live l′ ℓ j) → ⊥)
+                (j : ℕ) × (j < m) × (part (blackAt ℓ) (wordOf n (live l′ ℓ j)) p v ≡ 1)
+                × ((t : List ℕ) → ((x v : ℕ) → v < 16 → K x v ≡ true → cand t x v ≡ 1) → Dead n ℓ t (live l′ ℓ j) → ⊥)
             pick (yes q) _ = absurd (u .3 l (g .has) (subst (Dead n ℓ l) (sym (ap (live l ℓ) q)) d))
             pick (no q) (yes o) = at i (u .0) (omega (arith, u .1)) (ap (live l ℓ) o ∙ sym (r .here)) (u .2) (u .3)
             pick (no q) (no o) = at (u .0) (u .0) (omega (arith, u .1)) (sym (r .stays (u .0) (omega (arith, u .1)) q)) (u .2) (u .3)
@@ -154,4 +160,11 @@ holding-drop {n} {ℓ} {i} {m} {len} {l} {l′} {K} z room e h d r g = record { 
     still x v b k (yes q) =
         let s = r .within .struck x v b (g .has x v b k) q in
         let u = uses (s .at) v (s .within) b (s .half) (ap (λ x. K x v) (sym (s .there)) ∙ k) in
-        absurd (omega (arith, s .none, r .tallied .supports (s .at) v (omega (arith, s .within, z .high)) b, sum-has 0 m (u .0) (λ j. part (blackAt ℓ) (wordOf n (live l′ ℓ j)) (s .at) v) (omega arith) (omega (arith, u .1)), u .2))
+        absurd (omega (
+          arith,
+          s .none,
+          r .tallied .supports (s .at) v (omega (arith, s .within, z .high)) b,
+          sum-has 0 m (u .0)
+              (λ j. part (blackAt ℓ) (wordOf n (live l′ ℓ j)) (s .at) v) (omega arith) (omega (arith, u .1)),
+          u .2,
+        ))

@@ -157,7 +157,8 @@ module _ {n : ℕ} {ws l : List ℕ} {r c v : ℕ} (a : ArcAsk n ws l r c v) whe
           arcs = λ h x g m o. record { tallied = two-tallied m o; alive = alive h x g m o (ℕ-discrete m r) (ℕ-discrete m (9 + c)) };
         }
       where
-        alive : (h : ℕ) → Next l h (r * 9 + c) v → ((m : ℕ) → LineOf n m → Arc n m l h) → (m : ℕ) → LineOf n m → Dec (m ≡ r) → Dec (m ≡ 9 + c) → AllAlive n m l₂ (h + 1)
+        alive : (h : ℕ) → Next l h (r * 9 + c) v → ((m : ℕ) → LineOf n m → Arc n m l h) → (m : ℕ) → LineOf n m → Dec (m ≡ r) → Dec (m ≡ 9 + c) →
+            AllAlive n m l₂ (h + 1)
         alive h x g m o (yes e) _ =
             let n₁ = next-grown (d .grown) x in
             subst (λ m. AllAlive n m l₂ (h + 1)) (sym e)

@@ -44,19 +44,23 @@ module _ {line start stride : ℕ} (a : Placed line start stride) where
 
 module _ (n ℓ p v id : ℕ) (l : List ℕ) (z : Size n) (y : Known n id) (hp : p < n) where
   -- its cell at p has no candidate of the pattern
-  empty-dead : (o : ℕ) → pattern (blackAt ℓ) (wordOf n id) p o ≡ true → ((u : ℕ) → pattern (blackAt ℓ) (wordOf n id) p u ≡ true → cand l (cellAt ℓ p) u ≡ 0) → Dead n ℓ l id
+  empty-dead : (o : ℕ) → pattern (blackAt ℓ) (wordOf n id) p o ≡ true →
+      ((u : ℕ) → pattern (blackAt ℓ) (wordOf n id) p u ≡ true → cand l (cellAt ℓ p) u ≡ 0) → Dead n ℓ l id
   empty-dead o t f =
-      emptied (steps n (fromOf (wordOf n id)) p) (omega (arith, reach (decLt (steps n (fromOf (wordOf n id)) (toOf (wordOf n id))) (steps n (fromOf (wordOf n id)) p)), known-length n id z y))
+      emptied (steps n (fromOf (wordOf n id)) p)
+      (omega (arith, reach (decLt (steps n (fromOf (wordOf n id)) (toOf (wordOf n id))) (steps n (fromOf (wordOf n id)) p)), known-length n id z y))
       (λ u e. line-absent l ℓ _ u (subst (λ q. cand l (cellAt ℓ q) u ≡ 0) (sym (steps-place n id z y p hp)) (f u (there u e))))
     where
-      reach : Dec (steps n (fromOf (wordOf n id)) (toOf (wordOf n id)) < steps n (fromOf (wordOf n id)) p) → steps n (fromOf (wordOf n id)) p < sizeIn (id / 9) + 2
+      reach : Dec (steps n (fromOf (wordOf n id)) (toOf (wordOf n id)) < steps n (fromOf (wordOf n id)) p) →
+          steps n (fromOf (wordOf n id)) p < sizeIn (id / 9) + 2
       reach (yes b) = absurd (true≢false (sym t ∙ pattern-beyond n (blackAt ℓ) (wordOf n id) (known-shaped n id z y) (black-low ℓ) p o hp b))
       reach (no b) = omega (arith, known-steps n id z y)
 
       there : (u : ℕ) → allows (blackAt ℓ) (arrangementOf n id) (steps n (fromOf (wordOf n id)) p) u ≡ true → pattern (blackAt ℓ) (wordOf n id) p u ≡ true
       there u e =
           ap (λ q. pattern (blackAt ℓ) (wordOf n id) q u) (sym (steps-place n id z y p hp))
-          ∙ pattern-allows n id z y (blackAt ℓ) (steps n (fromOf (wordOf n id)) p) u (black-low ℓ) (reach (decLt (steps n (fromOf (wordOf n id)) (toOf (wordOf n id))) (steps n (fromOf (wordOf n id)) p)))
+          ∙ pattern-allows n id z y (blackAt ℓ) (steps n (fromOf (wordOf n id)) p) u (black-low ℓ)
+          (reach (decLt (steps n (fromOf (wordOf n id)) (toOf (wordOf n id))) (steps n (fromOf (wordOf n id)) p)))
           ∙ e
 
   -- a black that is struck leaves its place empty
@@ -68,7 +72,8 @@ module _ (n ℓ p v id : ℕ) (l : List ℕ) (z : Size n) (y : Known n id) (hp :
 
   -- ---- a digit is struck: x is the word, cands the struck cell
 
-  module _ (h : v < 8) (line : ℓ < 18) (x have cands : ℕ) (r : Bool) (e : x ≡ wordOf n id) (c : cands ≡ getD l (cellAt ℓ p) 0) (t : Tested x (testOf v p) have cands r) where
+  module _ (h : v < 8) (line : ℓ < 18) (x have cands : ℕ) (r : Bool) (e : x ≡ wordOf n id) (c : cands ≡ getD l (cellAt ℓ p) 0)
+      (t : Tested x (testOf v p) have cands r) where
     narrow : p < 9
     narrow = omega (arith, z .high)
 
@@ -102,7 +107,8 @@ module _ (n ℓ p v id : ℕ) (l : List ℕ) (z : Size n) (y : Known n id) (hp :
         -- the cell has no digit of the set
         empty : bitAnd cands (setOf x) ≡ 0 → Dead n ℓ l id
         empty q =
-            empty-dead v (ap (λ x. pattern (blackAt ℓ) x p v) (sym e) ∙ part-pattern (blackAt ℓ) x p v (omega (arith, part-digit (blackAt ℓ) x p v h, has .0, has .1)))
+            empty-dead v (ap (λ x. pattern (blackAt ℓ) x p v) (sym e) ∙ part-pattern (blackAt ℓ) x p v
+            (omega (arith, part-digit (blackAt ℓ) x p v h, has .0, has .1)))
             (λ u s. other u (ap (λ x. pattern (blackAt ℓ) x p u) e ∙ s) (decLt u 8))
           where
             other : (u : ℕ) → pattern (blackAt ℓ) x p u ≡ true → Dec (u < 8) → cand l (cellAt ℓ p) u ≡ 0
@@ -118,13 +124,17 @@ module _ (n ℓ p v id : ℕ) (l : List ℕ) (z : Size n) (y : Known n id) (hp :
                     go (yes m) = absurd (omega (arith, apart cands (setOf x) q u m))
                     go (no m) = omega (arith, bit-lt u cands)
             other u s (no i) =
-                let q : v ≡ u = black-alone n (blackAt ℓ) (wordOf n id) (known-shaped n id z y) (black-low ℓ) p v u (omega arith) (ap (λ x. pattern (blackAt ℓ) x p u) (sym e) ∙ s) (ap (λ x. pattern (blackAt ℓ) x p v) (sym e) ∙ part-pattern (blackAt ℓ) x p v (omega (arith, part-digit (blackAt ℓ) x p v h, has .0, has .1))) in
+                let q : v ≡ u = black-alone n (blackAt ℓ) (wordOf n id) (known-shaped n id z y) (black-low ℓ) p v u (omega arith)
+                (ap (λ x. pattern (blackAt ℓ) x p u) (sym e) ∙ s)
+                (ap (λ x. pattern (blackAt ℓ) x p v) (sym e) ∙ part-pattern (blackAt ℓ) x p v
+                (omega (arith, part-digit (blackAt ℓ) x p v h, has .0, has .1))) in
                 absurd (omega arith)
 
         -- the digit has no place
         nowhere : bitAnd (coveredOf x) have ≡ 0 → Dead n ℓ l id
         nowhere q =
-            unplaced v (digits-mem (maskIn (id / 9)) v (mask-even (id / 9) (known-subset n id z y)) h (ap (bit v) (sym (known-fields n id z y .set-is) ∙ ap setOf (sym e)) ∙ has .0))
+            unplaced v (digits-mem (maskIn (id / 9)) v (mask-even (id / 9) (known-subset n id z y)) h
+            (ap (bit v) (sym (known-fields n id z y .set-is) ∙ ap setOf (sym e)) ∙ has .0))
             (λ j b. line-absent l ℓ _ v (none j (omega (arith, known-length n id z y))))
           where
             none : (j : ℕ) → j < sizeIn (id / 9) + 2 → cand l (cellAt ℓ (place n (arrangementOf n id) j)) v ≡ 0

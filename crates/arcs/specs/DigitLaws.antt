@@ -42,7 +42,16 @@ module _ {l₀ l : List ℕ} {place cell mask rest : ℕ} (c : Dropping l₀ l p
         within = c .ask .within;
         there = c .ask .there;
         value = lowest .in-width;
-        positive = omega (arith, c .sunk .falls place v (c .ask .within) (lowest .in-width), c .ask .enough v (lowest .in-width), lowest .here, c .within v (lowest .in-width), same-yes place place refl, bit-lt v mask);
+        positive = omega (
+          arith,
+          c .sunk .falls place v (c .ask .within) (lowest .in-width),
+          c .ask .enough v (lowest .in-width),
+          lowest .here,
+          c .within v
+              (lowest .in-width),
+          same-yes place place refl,
+          bit-lt v mask,
+        );
       }
 
   pub dropping-enough : 1 * 2 ^ v % 65536 ≤ rest
@@ -64,7 +73,8 @@ module _ {l₀ l : List ℕ} {place cell mask rest : ℕ} (c : Dropping l₀ l p
       less w n (yes e) = let g : bit w (rest - 2 ^ v) ≡ 0 = rw e (bit-taken v rest (lowest .here)) in omega arith
       less w n (no e) = omega (arith, bit-kept v rest w (lowest .here) e, c .within w n)
 
-      both : (y w : ℕ) → w < 16 → Dec (w ≡ v) → min (same y place) (bit w mask - bit w rest) + single place v y w ≡ min (same y place) (bit w mask - bit w (rest - 2 ^ v))
+      both : (y w : ℕ) → w < 16 → Dec (w ≡ v) → min (same y place) (bit w mask - bit w rest) + single place v y w
+          ≡ min (same y place) (bit w mask - bit w (rest - 2 ^ v))
       both y w n (yes e) =
           let g : bit w (rest - 2 ^ v) ≡ 0 = rw e (bit-taken v rest (lowest .here)) in
           let f : bit w rest ≡ 1 = rw e (lowest .here) in

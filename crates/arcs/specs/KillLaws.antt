@@ -95,7 +95,8 @@ module _ {n line start stride first w : ℕ} {l : List ℕ} (a : KillAsk n line 
       far (yes i) (yes j) h = part-none (blackAt line) w q v (pattern-beyond n (blackAt line) w (a .shaped) (black-low line) q v i j)
       far (yes i) (no j) h =
           part-none (blackAt line) w q v
-          (pattern-inner-black n (blackAt line) w (a .shaped) (black-low line) q i (near (ℕ-discrete (steps n (fromOf w) q) 0)) (short (ℕ-discrete (steps n (fromOf w) q) (steps n (fromOf w) (toOf w)))) v h)
+          (pattern-inner-black n (blackAt line) w (a .shaped) (black-low line) q i (near (ℕ-discrete (steps n (fromOf w) q) 0))
+          (short (ℕ-discrete (steps n (fromOf w) q) (steps n (fromOf w) (toOf w)))) v h)
         where
           near : Dec (steps n (fromOf w) q ≡ 0) → 0 < steps n (fromOf w) q
           near (yes z) = absurd (d (steps-zero n (fromOf w) q (a .shaped .from-in) i z))
@@ -126,13 +127,27 @@ module _ {n line start stride first w : ℕ} {l : List ℕ} (a : KillAsk n line 
   module _ {l₁ : List ℕ} (f m : ℕ) (e : f ≡ fromOf w) (s : Sunk (single (line * 9 + f) m) l l₁) where
     pub kill-inner : InnerAsk n line start stride w l₁
     kill-inner =
-        record { sized = grown-sized (s .grown) (a .sized); size = a .size; placed = a .placed; shaped = a .shaped; enough = λ q v i j. enough q v i j (ℕ-discrete q (fromOf w)) (decLt v 8) }
+        record {
+          sized = grown-sized (s .grown) (a .sized);
+          size = a .size;
+          placed = a .placed;
+          shaped = a .shaped;
+          enough = λ q v i j. enough q v i j
+              (ℕ-discrete q (fromOf w)) (decLt v 8);
+        }
       where
         enough : (q v : ℕ) → q < 9 → v < 16 → Dec (q ≡ fromOf w) → Dec (v < 8) → min (bit q (innerOf w)) (bit v (setOf w)) ≤ support l₁ (line * 9 + q) v
         enough q v i j (yes d) _ = let z : bit q (innerOf w) ≡ 0 = rw d from-outer in omega arith
         enough q v i j (no d) (no h) = omega (arith, set-high w v (omega arith))
         enough q v i j (no d) (yes h) =
-            omega (arith, a .enough q v i j, part-digit (blackAt line) w q v h, s .falls (line * 9 + q) v (omega (arith, a .placed .within)) j, same-no (line * 9 + q) (line * 9 + f) (λ z. d (omega arith)))
+            omega (
+              arith,
+              a .enough q v i j,
+              part-digit (blackAt line) w q v h,
+              s .falls (line * 9 + q) v (omega (arith, a .placed .within)) j,
+              same-no
+                  (line * 9 + q) (line * 9 + f) (λ z. d (omega arith)),
+            )
 
     module _ {l₂ : List ℕ} (g : Sunk (inners line w) l₁ l₂) where
       pub kill-last : (t x y : ℕ) → t ≡ toOf w → x ≡ start + t * stride → y ≡ lastOf first w → DropAsk l₂ (line * 9 + t) x y
@@ -149,10 +164,18 @@ module _ {n line start stride first w : ℕ} {l : List ℕ} (a : KillAsk n line 
             within = u;
             there = h ∙ a .placed .cells t i ∙ sym (slot-cell line t i);
             value = b;
-            positive = omega (arith, a .enough t y i b, s .falls (line * 9 + t) y u b, g .falls (line * 9 + t) y u b, same-no (line * 9 + t) (line * 9 + f) (λ z. from-to (omega arith)));
+            positive = omega (
+              arith,
+              a .enough t y i b,
+              s .falls (line * 9 + t) y u b,
+              g .falls (line * 9 + t) y u b,
+              same-no (line * 9 + t) (line * 9 + f)
+                  (λ z. from-to (omega arith)),
+            );
           }
 
-      pub kill-end : (t y : ℕ) {l₃ : List ℕ} → t ≡ toOf w → m ≡ headOf first w → y ≡ lastOf first w → Sunk (single (line * 9 + t) y) l₂ l₃ → Sunk (parts line w) l l₃
+      pub kill-end : (t y : ℕ) {l₃ : List ℕ} → t ≡ toOf w → m ≡ headOf first w → y ≡ lastOf first w → Sunk (single (line * 9 + t) y) l₂ l₃ →
+          Sunk (parts line w) l l₃
       kill-end t y d h r z =
           sunk-as (sunk-both (sunk-both s g) z) (λ x v i j. all x v i (ℕ-discrete (x / 9) line) (ℕ-discrete (x % 9) (fromOf w)) (ℕ-discrete (x % 9) (toOf w)))
         where
@@ -162,16 +185,42 @@ module _ {n line start stride first w : ℕ} {l : List ℕ} (a : KillAsk n line 
           last-is : y ≡ lastOf (blackAt line) w
           last-is = r ∙ ap (λ k. lastOf k w) (a .black)
 
-          all : (x v : ℕ) → x < 162 → Dec (x / 9 ≡ line) → Dec (x % 9 ≡ fromOf w) → Dec (x % 9 ≡ toOf w) → single (line * 9 + f) m x v + inners line w x v + single (line * 9 + t) y x v ≡ parts line w x v
+          all : (x v : ℕ) → x < 162 → Dec (x / 9 ≡ line) → Dec (x % 9 ≡ fromOf w) → Dec (x % 9 ≡ toOf w) →
+              single (line * 9 + f) m x v + inners line w x v + single (line * 9 + t) y x v ≡ parts line w x v
           all x v i (no c) _ _ =
-              omega (arith, same-no (x / 9) line c, same-no x (line * 9 + f) (λ q. c (omega (arith, from-narrow))), same-no x (line * 9 + t) (λ q. c (omega (arith, to-narrow))))
+              omega (
+                arith,
+                same-no (x / 9) line c,
+                same-no x (line * 9 + f) (λ q. c (omega (arith, from-narrow))),
+                same-no x (line * 9 + t)
+                    (λ q. c (omega (arith, to-narrow))),
+              )
           all x v i (yes c) (yes u) _ =
               let b : bit (x % 9) (innerOf w) ≡ 0 = rw u from-outer in
               let p : part (blackAt line) w (x % 9) v ≡ same v m = rw (u, head-is) (part-from v) in
-              omega (arith, same-yes (x / 9) line c, same-yes x (line * 9 + f) (omega arith), same-no x (line * 9 + t) (λ q. from-to (omega arith)), part-lt (blackAt line) w (x % 9) v)
+              omega (
+                arith,
+                same-yes (x / 9) line c,
+                same-yes x (line * 9 + f) (omega arith),
+                same-no x (line * 9 + t) (λ q. from-to (omega arith)),
+                part-lt (blackAt line) w (x % 9) v,
+              )
           all x v i (yes c) (no u) (yes o) =
               let b : bit (x % 9) (innerOf w) ≡ 0 = rw o to-outer in
               let p : part (blackAt line) w (x % 9) v ≡ same v y = rw (o, last-is) (part-to v) in
-              omega (arith, same-yes (x / 9) line c, same-yes x (line * 9 + t) (omega arith), same-no x (line * 9 + f) (λ q. u (omega arith)), part-lt (blackAt line) w (x % 9) v)
+              omega (
+                arith,
+                same-yes (x / 9) line c,
+                same-yes x (line * 9 + t) (omega arith),
+                same-no x (line * 9 + f) (λ q. u (omega arith)),
+                part-lt
+                    (blackAt line) w (x % 9) v,
+              )
           all x v i (yes c) (no u) (no o) =
-              omega (arith, part-off (x % 9) v (omega arith) u o, same-no x (line * 9 + f) (λ q. u (omega arith)), same-no x (line * 9 + t) (λ q. o (omega arith)))
+              omega (
+                arith,
+                part-off (x % 9) v (omega arith) u o,
+                same-no x (line * 9 + f) (λ q. u (omega arith)),
+                same-no x (line * 9 + t)
+                    (λ q. o (omega arith)),
+              )

@@ -54,7 +54,11 @@ part-place n id ℓ p v z y h q = go (decLt p n)
     go : Dec (p < n) → p < n
     go (yes a) = a
     go (no a) =
-        absurd (omega (arith, part-none (blackAt ℓ) (wordOf n id) p v (pattern-past n (blackAt ℓ) (wordOf n id) (known-shaped n id z y) (black-low ℓ) p v (omega arith) h)))
+        absurd (omega (
+          arith,
+          part-none (blackAt ℓ) (wordOf n id) p v
+              (pattern-past n (blackAt ℓ) (wordOf n id) (known-shaped n id z y) (black-low ℓ) p v (omega arith) h),
+        ))
 
 -- ---- what is dead stays dead, what has no support stays without
 
@@ -65,7 +69,8 @@ dead-kept {l} {l′} {n} {ℓ} {id} g (emptied j h e) =
 dead-kept {l} {l′} {n} {ℓ} {id} g (unplaced d m e) =
     unplaced d m (λ j h. line-absent l′ ℓ _ d (grown-gone g _ d (let i = digits-narrow _ d m in omega arith) (absent-line l ℓ _ d (e j h))))
 
-pub unsupported-kept : {n : ℕ} {l l′ : List ℕ} {x v : ℕ} → Size n → v < 16 → ((y u : ℕ) → y < 162 → u < 16 → support l′ y u ≤ support l y u) → Unsupported n l x v → Unsupported n l′ x v
+pub unsupported-kept : {n : ℕ} {l l′ : List ℕ} {x v : ℕ} → Size n → v < 16 → ((y u : ℕ) → y < 162 → u < 16 → support l′ y u ≤ support l y u) →
+    Unsupported n l x v → Unsupported n l′ x v
 unsupported-kept {x = x} {v = v} z h s u =
     record {
       line = u .line;

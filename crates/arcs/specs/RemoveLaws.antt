@@ -73,7 +73,14 @@ module _ {n ℓ start stride first i len w : ℕ} {l : List ℕ} (a : RemoveAsk 
         placed = a .placed;
         black = a .black;
         shaped = rw (a .word) (known-shaped n (live l ℓ i) (a .ready .size) leaving);
-        enough = λ q v h k. omega (arith, support₁ (ℓ * 9 + q) v, leaves q v, tally q v h k, sum-has 0 (len + 1) i (f q v) (omega arith) (omega (arith, a .listed)));
+        enough = λ q v h k. omega (
+          arith,
+          support₁ (ℓ * 9 + q) v,
+          leaves q v,
+          tally q v h k,
+          sum-has 0 (len + 1) i (f q v) (omega arith)
+              (omega (arith, a .listed)),
+        );
       }
 
   module _ {l′ : List ℕ} (killed : Sunk (parts ℓ w) (set l (1603 + ℓ * 78 + i) (live l ℓ len)) l′) where
@@ -125,7 +132,8 @@ module _ {n ℓ start stride first i len w : ℕ} {l : List ℕ} (a : RemoveAsk 
         counts : (p v : ℕ) → p < 9 → v < 16 → support l′ (ℓ * 9 + p) v ≡ sum 0 len (λ (j : ℕ). part (blackAt ℓ) (wordOf n (live l′ ℓ j)) p v)
         counts p v h k =
             let g : ℕ → ℕ = λ j. part (blackAt ℓ) (wordOf n (live l′ ℓ j)) p v in
-            let t = sum-drop len (f p v) g i (a .listed) (ap (λ x. part (blackAt ℓ) (wordOf n x) p v) live-here) (λ j b d. ap (λ x. part (blackAt ℓ) (wordOf n x) p v) (live-other j (omega (arith, remove-bounds .1)) d)) in
+            let t = sum-drop len (f p v) g i (a .listed) (ap (λ x. part (blackAt ℓ) (wordOf n x) p v) live-here)
+            (λ j b d. ap (λ x. part (blackAt ℓ) (wordOf n x) p v) (live-other j (omega (arith, remove-bounds .1)) d)) in
             omega (arith, slot-falls p v h k, tally p v h k)
 
         back : (p v : ℕ) → p < n → v < 16 → InHalf (blackAt ℓ) v → support l′ (ℓ * 9 + p) v ≡ 0 → Dec (0 < f p v i) → cand l′ (cellAt ℓ p) v ≡ 0

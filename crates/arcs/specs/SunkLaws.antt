@@ -80,7 +80,14 @@ sunk-both {D} {E} {a} {b} {c} s t =
     lost : (x v : ℕ) → v < 16 → cand a x v ≡ 1 → cand c x v ≡ 0 → Dec (cand b x v ≡ 0) → Lost (λ y v. D y v + E y v) c x v
     lost x v p f z (yes d) =
         let w = s .only x v p f d in
-        record { slot = w .slot; within = w .within; there = w .there; fell = omega (arith, w .fell); none = omega (arith, w .none, t .falls (w .slot) v (w .within) p) }
+        record {
+          slot = w .slot;
+          within = w .within;
+          there = w .there;
+          fell = omega (arith, w .fell);
+          none = omega
+              (arith, w .none, t .falls (w .slot) v (w .within) p);
+        }
     lost x v p f z (no d) =
         let w = t .only x v p (omega (arith, cand-lt b x v)) z in
         record { slot = w .slot; within = w .within; there = w .there; fell = omega (arith, w .fell); none = w .none }
@@ -166,7 +173,8 @@ module _ {l : List ℕ} {place cell v : ℕ} (a : DropAsk l place cell v) where
       back y u f (no e) g = absurd (omega (arith, same-no y place e))
 
   -- as the code does it: r is what is left, in the state l₁
-  module _ {l₁ : List ℕ} {r : ℕ} (e : (r ≡ getD l (3007 + place * 16 + v) 0 - 1) × (l₁ ≡ set l (3007 + place * 16 + v) (getD l (3007 + place * 16 + v) 0 - 1))) where
+  module _ {l₁ : List ℕ} {r : ℕ} (e : (r ≡ getD l (3007 + place * 16 + v) 0 - 1)
+      × (l₁ ≡ set l (3007 + place * 16 + v) (getD l (3007 + place * 16 + v) 0 - 1))) where
     left-is : support (set l index k) place v ≡ r
     unfolding index k
     left-is = getD-set-same l index k 0 (omega (arith, a .sized .size, a .within, a .value)) ∙ sym (e .0)

@@ -199,14 +199,16 @@ module _ {n ℓ start stride first p v : ℕ} {ws l₀ : List ℕ} (a : SweepAsk
           others = λ m h d.
               record {
                 count = far (1585 + m) (λ e. d (omega arith)) ∙ s .within .rest (1585 + m) (omega arith) (omega arith) (inl (omega arith));
-                list = λ j b. far (1603 + m * 78 + j) (λ e. omega (arith, sweep-line)) ∙ s .within .rest (1603 + m * 78 + j) (omega arith) (omega arith) (apart m j b d);
+                list = λ j b. far (1603 + m * 78 + j) (λ e. omega (arith, sweep-line))
+                    ∙ s .within .rest (1603 + m * 78 + j) (omega arith) (omega arith) (apart m j b d);
                 tally = λ q u b c. tally (m * 9 + q) u ∙ s .within .others (m * 9 + q) u (omega arith) c (λ e. d (omega arith));
               };
           sinks = λ y u b c. omega (arith, tally y u, s .within .sinks y u b c);
           struck = λ x u b c d.
               let w = s .within .struck x u b c (sym (same-cand x u) ∙ d) in
               record { line = ℓ; of = a .of; at = w .at; within = w .within; there = w .there; half = w .half; none = tally (ℓ * 9 + w .at) u ∙ w .none };
-          tallied = subst (λ k. Tallied n ℓ k l′) (sym count) (tallied-same grown (λ j b. list j) (λ q u b c. tally (ℓ * 9 + q) u) (a .ready .size) (s .tallied));
+          tallied = subst (λ k. Tallied n ℓ k l′) (sym count)
+              (tallied-same grown (λ j b. list j) (λ q u b c. tally (ℓ * 9 + q) u) (a .ready .size) (s .tallied));
           fewer = λ j b. gone (s .fewer j b);
           older = λ j b. subst (Listed ℓ (lives l₀ ℓ) l₀) (sym (list j)) (s .older j (omega (arith, count)));
           holds = λ K g. hold K (s .holds K g);

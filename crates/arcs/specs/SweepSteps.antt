@@ -71,11 +71,13 @@ module _ {n ℓ start stride first p v : ℕ} {ws l₀ : List ℕ} (a : SweepAsk
       pub black-drop : {l′ : List ℕ} (m : ℕ) → m ≡ len - 1 → x ≡ p → Removed n ℓ i m l l′ → Sweeping n ℓ p v l₀ l′ i m
       black-drop m q o r =
           sweep-drop a s b m q
-          (black-dead n ℓ p v (live l ℓ i) l (a .ready .size) (sweep-known a s b) (a .place) h (black-part ∙ same-yes x p o) (grown-gone (s .within .grown) (cellAt ℓ p) v (a .narrow) (a .gone)))
+          (black-dead n ℓ p v (live l ℓ i) l (a .ready .size) (sweep-known a s b) (a .place) h (black-part ∙ same-yes x p o)
+          (grown-gone (s .within .grown) (cellAt ℓ p) v (a .narrow) (a .gone)))
           r
 
     -- a digit is struck
-    module _ (w test have cell : ℕ) (o : Bool) (h : v < 8) (e : w ≡ getD ws (live l ℓ i) 0) (f : test ≡ testOf v p) (g : cell ≡ start + p * stride) (t : Tested w test have (getD l cell 0) o) where
+    module _ (w test have cell : ℕ) (o : Bool) (h : v < 8) (e : w ≡ getD ws (live l ℓ i) 0) (f : test ≡ testOf v p) (g : cell ≡ start + p * stride)
+        (t : Tested w test have (getD l cell 0) o) where
       tested : Tested w (testOf v p) have (getD l cell 0) o
       tested = rw f at t
 
@@ -85,16 +87,24 @@ module _ {n ℓ start stride first p v : ℕ} {ws l₀ : List ℕ} (a : SweepAsk
       pub digit-keep : getD ws (live l ℓ i) 0 < 2 ^ 32 → getD l cell 0 < 2 ^ 16 → o ≡ true → Sweeping n ℓ p v l₀ l (i + 1) len
       digit-keep c d q =
           sweep-keep a s b
-          (tested-kept n ℓ p v (live l ℓ i) l (a .ready .size) (sweep-known a s b) (a .place) h (sweep-line a) w have (getD l cell 0) o (sweep-word w e) at-cell tested (rw e c) d q)
+          (tested-kept n ℓ p v (live l ℓ i) l (a .ready .size) (sweep-known a s b) (a .place) h (sweep-line a) w have (getD l cell 0) o (sweep-word w e)
+          at-cell tested (rw e c) d q)
 
       pub digit-drop : {l′ : List ℕ} (m : ℕ) → m ≡ len - 1 → o ≡ false → Have start stride v l n have → Removed n ℓ i m l l′ → Sweeping n ℓ p v l₀ l′ i m
       digit-drop m c q k r =
           sweep-drop a s b m c
-          (tested-dead n ℓ p v (live l ℓ i) l (a .ready .size) (sweep-known a s b) (a .place) h (sweep-line a) w have (getD l cell 0) o (sweep-word w e) at-cell tested (a .placed) k q)
+          (tested-dead n ℓ p v (live l ℓ i) l (a .ready .size) (sweep-known a s b) (a .place) h (sweep-line a) w have (getD l cell 0) o (sweep-word w e)
+          at-cell tested (a .placed) k q)
           r
 
       pub digit-have : {l′ : List ℕ} {m : ℕ} → Have start stride v l n have → Removed n ℓ i m l l′ → HaveAsk n start stride v l′ × Have start stride v l′ n have
       digit-have k r = (
-        record { size = r .within .grown .size ∙ sweep-bounds a s .1; high = a .ready .size .high; narrow = a .narrow; cells = λ q h. placed-small (a .placed) q h },
+        record {
+          size = r .within .grown .size ∙ sweep-bounds a s .1;
+          high = a .ready .size .high;
+          narrow = a .narrow;
+          cells = λ q h. placed-small
+              (a .placed) q h;
+        },
         have-kept (a .placed) v n have (a .narrow) (a .ready .size .high) (r .within .grown) k,
       )

@@ -67,7 +67,8 @@ module _ (w v p : ℕ) (h : v < 8) (k : p < 9) where
   )
 
   test-passes : w < 2 ^ 32 → bit v (setOf w) ≡ 1 → bit p (innerOf w) ≡ 1 → bitAnd w (testOf v p) ≡ testOf v p
-  test-passes l a b = bit-ext 32 (bitAnd w (testOf v p)) (testOf v p) (and-lt 32 w (testOf v p) l test-lt) test-lt (λ i q. each i (ℕ-discrete i v) (ℕ-discrete i (8 + p)))
+  test-passes l a b = bit-ext 32 (bitAnd w (testOf v p)) (testOf v p) (and-lt 32 w (testOf v p) l test-lt) test-lt
+      (λ i q. each i (ℕ-discrete i v) (ℕ-discrete i (8 + p)))
     where
       each : (i : ℕ) → Dec (i ≡ v) → Dec (i ≡ 8 + p) → bit i (bitAnd w (testOf v p)) ≡ bit i (testOf v p)
       each i (yes e) _ =

@@ -126,7 +126,8 @@ module _ {n line start stride w : ℕ} {l₀ : List ℕ} (a : InnerAsk n line st
           sunk = sunk-as (sunk-both (c .sunk) m) (λ y v hy hv. both y v hy k (ℕ-discrete y (line * 9 + p)) (ℕ-discrete (y / 9) line));
         }
       where
-        both : (y v : ℕ) → y < 162 → steps n (fromOf w) p′ ≡ steps n (fromOf w) p + 1 → Dec (y ≡ line * 9 + p) → Dec (y / 9 ≡ line) → passed n line w p y v + masked (line * 9 + p) x y v ≡ passed n line w p′ y v
+        both : (y v : ℕ) → y < 162 → steps n (fromOf w) p′ ≡ steps n (fromOf w) p + 1 → Dec (y ≡ line * 9 + p) → Dec (y / 9 ≡ line) →
+            passed n line w p y v + masked (line * 9 + p) x y v ≡ passed n line w p′ y v
         both y v hy k (yes q) r =
             let b : bit (y % 9) (innerOf w) ≡ 1 = rw (q, slot-place) inner in
             let z : below (steps n (fromOf w) (y % 9)) (steps n (fromOf w) p) ≡ 0 = rw (q, slot-place) (below-no _ _ (omega arith)) in

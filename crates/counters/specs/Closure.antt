@@ -40,7 +40,8 @@ module _ {n : ℕ} {l : List ℕ} (ready : Ready n l) where
   none-or x v d = elim (ℕ-discrete (cand l x v) 1) [ yes e ↦ absurd (d e) | no e ↦ omega (arith, cand-lt l x v) ]
 
   -- the only candidate of a half has been set
-  module _ (ℓ : Line) (w : HalvesOf ℓ n l (tail l)) (i v : ℕ) (hℓ : index ℓ < n) (hi : i < n) (m : List·Memᴰ v (half n (firstBlack ℓ))) (e : places (tableIn l) ℓ i v ≡ true)
+  module _ (ℓ : Line) (w : HalvesOf ℓ n l (tail l)) (i v : ℕ) (hℓ : index ℓ < n) (hi : i < n) (m : List·Memᴰ v (half n (firstBlack ℓ)))
+      (e : places (tableIn l) ℓ i v ≡ true)
       (only : (w : ℕ) → List·Memᴰ w (half n (firstBlack ℓ)) → places (tableIn l) ℓ i w ≡ true → w ≡ v) where
     place : HalfPlace ℓ v
     place = let q = half-in n ℓ v high m in let b = value-range high (q .0) in half-place ℓ v (b .0) (b .1) (q .1)
@@ -66,7 +67,8 @@ module _ {n : ℕ} {l : List ℕ} (ready : Ready n l) where
     half-set = rw (place .is) at (w .rule (cellOf ℓ i) grid (omega (arith, one)) (place .place) (place .small))
 
   -- a value's only place in a line has been set
-  module _ (ℓ : Line) (w : PlacesOf ℓ n l (tail l)) (i v : ℕ) (hℓ : index ℓ < n) (hi : i < n) (m : List·Memᴰ v (half n (firstBlack ℓ))) (e : places (tableIn l) ℓ i v ≡ true)
+  module _ (ℓ : Line) (w : PlacesOf ℓ n l (tail l)) (i v : ℕ) (hℓ : index ℓ < n) (hi : i < n) (m : List·Memᴰ v (half n (firstBlack ℓ)))
+      (e : places (tableIn l) ℓ i v ≡ true)
       (only : (j : ℕ) → j < n → places (tableIn l) ℓ j v ≡ true → j ≡ i) where
     narrow : v < 16
     narrow = omega (arith, value-range high (half-in n ℓ v high m .0))
@@ -114,8 +116,10 @@ module _ {n : ℕ} {l : List ℕ} (ready : Ready n l) where
             ruled-rest (cellBlacks ℓ) 0 (NoBlacks (crossBlack ℓ)) (fine-blacks ℓ) n high w (r * 9 + c) grid
             ∙ sum-none 0 2 (λ j. cand l (r * 9 + c) (ownBlack ℓ + j)) (λ j a b. each j (omega arith))
 
-    black-too : (tableIn l r c (crossBlack ℓ) || tableIn l r c (crossBlack ℓ + 1)) ≡ true → (tableIn l r c (ownBlack ℓ) || tableIn l r c (ownBlack ℓ + 1)) ≡ true
-    black-too t = go (ownBlack ℓ) (ownBlack ℓ + 1) no-blacks (ℕ-discrete (cand l (r * 9 + c) (ownBlack ℓ)) 1) (ℕ-discrete (cand l (r * 9 + c) (ownBlack ℓ + 1)) 1)
+    black-too : (tableIn l r c (crossBlack ℓ) || tableIn l r c (crossBlack ℓ + 1)) ≡ true →
+        (tableIn l r c (ownBlack ℓ) || tableIn l r c (ownBlack ℓ + 1)) ≡ true
+    black-too t = go (ownBlack ℓ) (ownBlack ℓ + 1) no-blacks (ℕ-discrete (cand l (r * 9 + c) (ownBlack ℓ)) 1)
+        (ℕ-discrete (cand l (r * 9 + c) (ownBlack ℓ + 1)) 1)
       where
         go : (k m : ℕ) → (cand l (r * 9 + c) k ≡ 0 → cand l (r * 9 + c) m ≡ 0 → NoBlacks (crossBlack ℓ) l (r * 9 + c)) →
             Dec (cand l (r * 9 + c) k ≡ 1) → Dec (cand l (r * 9 + c) m ≡ 1) → (tableIn l r c k || tableIn l r c m) ≡ true
@@ -147,7 +151,8 @@ module _ {n : ℕ} {l : List ℕ} (a : AtRest n l) where
       (half-set (a .ready) ℓ (halves-at (a .halves) ℓ) i v hℓ hi m e only .struck (place-yes l ℓ i v e) (cellOf ℓ j) v (omega (arith, value-range small (q .0)))
       (line-hit ℓ i j v (omega (arith, small)) (omega (arith, small)) (omega (arith, small)) d (q .1)))
 
-  pub single : (ℓ : Line) → index ℓ < n → (i v w : ℕ) → i < n → List·Memᴰ v (half n (firstBlack ℓ)) → List·Memᴰ w (half n (firstBlack ℓ)) → places (tableIn l) ℓ i v ≡ true →
+  pub single : (ℓ : Line) → index ℓ < n → (i v w : ℕ) → i < n → List·Memᴰ v (half n (firstBlack ℓ)) → List·Memᴰ w (half n (firstBlack ℓ)) → places
+      (tableIn l) ℓ i v ≡ true →
       ((j : ℕ) → j < n → places (tableIn l) ℓ j v ≡ true → j ≡ i) → places (tableIn l) ℓ i w ≡ true → w ≡ v
   single ℓ hℓ i v w hi m k e only f = go (ℕ-discrete w v)
     where
@@ -159,7 +164,8 @@ module _ {n : ℕ} {l : List ℕ} (a : AtRest n l) where
           absurd (omega (
             arith,
             place-yes l ℓ i w f,
-            place-set (a .ready) ℓ (places-at (a .places) ℓ) i v hℓ hi m e only .struck (place-yes l ℓ i v e) (cellOf ℓ i) w (omega (arith, value-range small (u .0))) (cell-hit ℓ (cellOf ℓ i) v w d (q .1) (u .1)),
+            place-set (a .ready) ℓ (places-at (a .places) ℓ) i v hℓ hi m e only .struck (place-yes l ℓ i v e) (cellOf ℓ i) w
+                (omega (arith, value-range small (u .0))) (cell-hit ℓ (cellOf ℓ i) v w d (q .1) (u .1)),
           ))
 
   pub crossed : (r c i d : ℕ) → r < n → c < n → i < n → List·Memᴰ d (digits n) → tableIn l r c d ≡ true →
@@ -168,8 +174,10 @@ module _ {n : ℕ} {l : List ℕ} (a : AtRest n l) where
   crossed r c i d hr hc hi m e only ne =
       let b = digit-range n d m in
       no-table l i c d
-      (half-set (a .ready) (across r) (a .halves .rows) c d hr hc (digit-in n leftBlack m) e only .struck (table-yes l r c d e) (i * 9 + c) d (omega (arith, small))
-      (line-hit (down c) r i d (omega (arith, small)) (omega (arith, small)) (omega (arith, small)) (λ q. ne (sym q)) (digit-in-line (down c) d (omega (arith, small)))))
+      (half-set (a .ready) (across r) (a .halves .rows) c d hr hc (digit-in n leftBlack m) e only .struck (table-yes l r c d e) (i * 9 + c) d
+      (omega (arith, small))
+      (line-hit (down c) r i d (omega (arith, small)) (omega (arith, small)) (omega (arith, small)) (λ q. ne (sym q))
+      (digit-in-line (down c) d (omega (arith, small)))))
 
   pub crossedBack : (r c j d : ℕ) → r < n → c < n → j < n → List·Memᴰ d (digits n) → tableIn l r c d ≡ true →
       ((w : ℕ) → List·Memᴰ w (half n upperBlack) → tableIn l r c w ≡ true → w ≡ d) → j ≢ c → tableIn l r j d ≡ false
@@ -177,8 +185,10 @@ module _ {n : ℕ} {l : List ℕ} (a : AtRest n l) where
   crossedBack r c j d hr hc hj m e only ne =
       let b = digit-range n d m in
       no-table l r j d
-      (half-set (a .ready) (down c) (a .halves .columns) r d hc hr (digit-in n upperBlack m) e only .struck (table-yes l r c d e) (r * 9 + j) d (omega (arith, small))
-      (line-hit (across r) c j d (omega (arith, small)) (omega (arith, small)) (omega (arith, small)) (λ q. ne (sym q)) (digit-in-line (across r) d (omega (arith, small)))))
+      (half-set (a .ready) (down c) (a .halves .columns) r d hc hr (digit-in n upperBlack m) e only .struck (table-yes l r c d e) (r * 9 + j) d
+      (omega (arith, small))
+      (line-hit (across r) c j d (omega (arith, small)) (omega (arith, small)) (omega (arith, small)) (λ q. ne (sym q))
+      (digit-in-line (across r) d (omega (arith, small)))))
 
   pub blacks : (r c : ℕ) → r < n → c < n → (tableIn l r c leftBlack || tableIn l r c rightBlack) ≡ (tableIn l r c upperBlack || tableIn l r c lowerBlack)
   blacks r c hr hc =

@@ -64,7 +64,8 @@ pub record Fine (F : Fam) (Rule : List ℕ → ℕ → Type 0) : Type 0 where
   pub from : 973 ≤ F .base
   pub within : (n i : ℕ) → n ≤ 9 → F .used n i → i < F .size
   pub narrow : (i j : ℕ) → i < F .size → j < F .n → F .value i j < 16
-  pub once : (i j i′ j′ : ℕ) → i < F .size → j < F .n → i′ < F .size → j′ < F .n → F .cell i j ≡ F .cell i′ j′ → F .value i j ≡ F .value i′ j′ → (i ≡ i′) × (j ≡ j′)
+  pub once : (i j i′ j′ : ℕ) → i < F .size → j < F .n → i′ < F .size → j′ < F .n → F .cell i j ≡ F .cell i′ j′ → F .value i j ≡ F .value i′ j′ → (i ≡ i′) ×
+      (j ≡ j′)
   pub down : (l l′ : List ℕ) (i : ℕ) → i < F .size → Grown l l′ → Rule l i → Rule l′ i
 
 module _ (F : Fam) (low : ℕ) (Rule : List ℕ → ℕ → Type 0) (p : Fine F Rule) (n : ℕ) (hn : n ≤ 9) where
@@ -81,7 +82,8 @@ module _ (F : Fam) (low : ℕ) (Rule : List ℕ → ℕ → Type 0) (p : Fine F 
       (λ j a b. sym (g .lags h (F .cell i j) (F .value i j) k (p .narrow i j (p .within n i hn u) (omega arith))))
 
   -- strikes keep it where its counters stay
-  pub ruled-kept : {l l′ : List ℕ} {h : ℕ} → Grown l l′ → h ≤ tail l → ((i : ℕ) → F .used n i → getD l′ (F .base + i) 0 ≡ getD l (F .base + i) 0) → Ruled F low Rule n l h → Ruled F low Rule n l′ h
+  pub ruled-kept : {l l′ : List ℕ} {h : ℕ} → Grown l l′ → h ≤ tail l → ((i : ℕ) → F .used n i → getD l′ (F .base + i) 0 ≡ getD l (F .base + i) 0) →
+      Ruled F low Rule n l h → Ruled F low Rule n l′ h
   unfolding lags
   ruled-kept g k e w =
       record {
@@ -89,13 +91,15 @@ module _ (F : Fam) (low : ℕ) (Rule : List ℕ → ℕ → Type 0) (p : Fine F 
         rule = λ i u m. p .down _ _ i (p .within n i hn u) g (w .rule i u (omega (arith, e i u)));
       }
 
-  pub ruled-moved : {l l′ : List ℕ} {a b h : ℕ} → Moved l l′ a b → (F .base + F .size ≤ a) ⊎ (b ≤ F .base) → h ≤ tail l → Ruled F low Rule n l h → Ruled F low Rule n l′ h
+  pub ruled-moved : {l l′ : List ℕ} {a b h : ℕ} → Moved l l′ a b → (F .base + F .size ≤ a) ⊎ (b ≤ F .base) → h ≤ tail l → Ruled F low Rule n l h →
+      Ruled F low Rule n l′ h
   ruled-moved m d k w =
       ruled-kept (m .grown) k
       (λ i u. m .rest (F .base + i) (omega (arith, p .from)) (⊎-elim (λ x. inl (omega (arith, p .within n i hn u))) (λ x. inr (omega arith)) d)) w
 
   -- at rest a counter is the number of its candidates in the table
-  pub ruled-rest : {l : List ℕ} → Ruled F low Rule n l (tail l) → (i : ℕ) → F .used n i → getD l (F .base + i) 0 ≡ sum 0 (F .n) (λ (j : ℕ). cand l (F .cell i j) (F .value i j))
+  pub ruled-rest : {l : List ℕ} → Ruled F low Rule n l (tail l) → (i : ℕ) → F .used n i → getD l (F .base + i) 0 ≡ sum 0 (F .n)
+      (λ (j : ℕ). cand l (F .cell i j) (F .value i j))
   unfolding lags cands
   ruled-rest {l} w i u = w .counts i u ∙ sum-same 0 (F .n) (lags l (tail l) i) (cands l i) (λ j a b. lag-rest l (F .cell i j) (F .value i j))
 

@@ -54,8 +54,18 @@ pub half-place : (ℓ : Line) (v : ℕ) → 1 ≤ v → v < 12 → inLine ℓ v 
 half-place (across r) v a b t = let h = ltb-true v 10 t in record { place = v - 1; small = omega arith; is = omega arith }
 half-place (down c) v a b t =
     ⊎-elim
-    (λ s. let h = ltb-true v 8 s in let q : v - 1 < 7 = omega arith in record { place = v - 1; small = omega arith; is = rw (lt-ltb (v - 1) 7 q) (omega arith) })
-    (λ s. let h = leb-true 10 v s in let q : 7 ≤ v - 3 = omega arith in record { place = v - 3; small = omega arith; is = rw (le-ltb (v - 3) 7 q) (omega arith) })
+    (λ s. let h = ltb-true v 8 s in let q : v - 1 < 7 = omega arith in record {
+      place = v - 1;
+      small = omega arith;
+      is = rw (lt-ltb (v - 1) 7 q)
+          (omega arith);
+    })
+    (λ s. let h = leb-true 10 v s in let q : 7 ≤ v - 3 = omega arith in record {
+      place = v - 3;
+      small = omega arith;
+      is = rw (le-ltb (v - 3) 7 q)
+          (omega arith);
+    })
     (or-split (ltb v 8) (leb 10 v) t)
 
 -- ---- rules stay while the table shrinks
@@ -64,7 +74,8 @@ pub set-down : {l l′ : List ℕ} {x v : ℕ} → v < 16 → Grown l l′ → I
 set-down {l} {l′} {x} {v} h g s =
     record { struck = λ e y w k t. grown-gone g y w k (s .struck (omega (arith, g .sub x v h, cand-lt l x v)) y w k t) }
 
-all-set-down : (F : Fam) → ((i j : ℕ) → i < F .size → j < F .n → F .value i j < 16) → (l l′ : List ℕ) (i : ℕ) → i < F .size → Grown l l′ → AllSet F l i → AllSet F l′ i
+all-set-down : (F : Fam) → ((i j : ℕ) → i < F .size → j < F .n → F .value i j < 16) → (l l′ : List ℕ) (i : ℕ) → i < F .size → Grown l l′ → AllSet F l i →
+    AllSet F l′ i
 all-set-down F narrow l l′ i h g r j k = set-down (narrow i j h k) g (r j k)
 
 blacks-down : (k : ℕ) → k < 15 → (l l′ : List ℕ) (x : ℕ) → Grown l l′ → NoBlacks k l x → NoBlacks k l′ x

@@ -2,7 +2,7 @@
 use Prim.Native.Nat.{ℕ, zero, suc, _+_, _-_, _*_, _/_, _%_, _^_, _≤_, _<_}
 use mathlib.Core.Path.{_≡_, refl, sym, ap, ap₂, _∙_}
 use mathlib.Core.Bool.{Bool, true, false, _&&_, cond}
-use mathlib.Core.List.{List, [], _∷_, _++_, map, append-assoc, map-append}
+use mathlib.Core.List.{List, [], _∷_, _++_, map, append-assoc, append-nil, map-append}
 use native.Mathlib.Omega.{arith}
 use lib.Dec.{eqb, ltb, leb}
 use lib.ListN.{length, getD, set, length-set, length-append, length-map}
@@ -17,7 +17,7 @@ use Rattle.words.specs.Word.{maskIn, sumIn, sizeIn, Known, wordOf, part}
 use Rattle.words.specs.WordFacts.{subset-fits}
 use Rattle.words.specs.PatternLaws.{part-lt}
 use Rattle.words.specs.WordLaws.{known-shaped}
-use Rattle.arcs.specs.Arc.{blackAt, lives, live}
+use Rattle.arcs.specs.Arc.{blackAt, lives, live, support}
 use Rattle.listing.specs.Numbers.{scan, onSide, startsFrom, wanted, sideFrom}
 use Rattle.listing.specs.Listing.{listOf, Raised, WordAsk, Added, Addable, Adding, StartsAsk}
 
@@ -60,18 +60,16 @@ module _ (f : ℕ → List ℕ) (ok : ℕ → Bool) (a m : ℕ) where
 list-length : (l : List ℕ) (ℓ : ℕ) → length (listOf l ℓ) ≡ lives l ℓ
 list-length l ℓ = length-map (span 0 (lives l ℓ)) (λ j. live l ℓ j) ∙ span-length 0 (lives l ℓ)
 
+-- the line has that many more
 pub added-lives : {n ℓ : ℕ} {l l′ ids : List ℕ} → Added n ℓ l l′ ids → lives l′ ℓ ≡ lives l ℓ + length ids
 added-lives {n} {ℓ} {l} {l′} {ids} a =
     sym (list-length l′ ℓ) ∙ ap length (a .list) ∙ length-append (listOf l ℓ) ids ∙ ap (λ x. x + length ids) (list-length l ℓ)
 
-append-none : (x : List ℕ) → x ++ [] ≡ x
-append-none [] = refl
-append-none (a ∷ x) = ap (λ y. a ∷ y) (append-none x)
-
 added-none : (n ℓ : ℕ) (l : List ℕ) → Added n ℓ l l []
 unfolding tally.sum
-added-none n ℓ l = record { size = refl; list = sym (append-none (listOf l ℓ)); supports = λ p v h k. omega arith; rest = λ q h. refl }
+added-none n ℓ l = record { size = refl; list = sym (append-nil (listOf l ℓ)); supports = λ p v h k. omega arith; rest = λ q h. refl }
 
+-- some, then others
 pub added-both : {n ℓ : ℕ} {a b c x y : List ℕ} → Added n ℓ a b x → Added n ℓ b c y → Added n ℓ a c (x ++ y)
 added-both {n} {ℓ} {a} {b} {c} {x} {y} r s =
     record {
@@ -88,6 +86,7 @@ added-both {n} {ℓ} {a} {b} {c} {x} {y} r s =
       rest = λ q h. s .rest q h ∙ r .rest q h;
     }
 
+-- where there is room for all, there is room for the first of them, and for the others after those
 pub addable-first : {n ℓ k : ℕ} {ws l : List ℕ} (x y : List ℕ) → Addable n ℓ k ws l (x ++ y) → Addable n ℓ k ws l x
 addable-first x y a =
     record {
@@ -112,18 +111,21 @@ addable-after {n} {ℓ} x y a d =
       low = λ p v h k. omega (arith, a .low p v h k, d .supports p v h k, added-lives d, parts-le (blackAt ℓ) n p v x);
     }
 
+-- none yet; some more; all
 pub adding-start : {n ℓ k : ℕ} {ws l whole : List ℕ} → Addable n ℓ k ws l whole → Adding n ℓ k ws l l whole whole
 adding-start {n} {ℓ} {l = l} a = record { done = []; added = added-none n ℓ l; is = refl; ask = a }
 
-pub adding-next : {n ℓ k : ℕ} {ws l₀ l l′ whole : List ℕ} (x y : List ℕ) → Adding n ℓ k ws l₀ l (x ++ y) whole → Added n ℓ l l′ x → Adding n ℓ k ws l₀ l′ y whole
+pub adding-next : {n ℓ k : ℕ} {ws l₀ l l′ whole : List ℕ} (x y : List ℕ) → Adding n ℓ k ws l₀ l (x ++ y) whole → Added n ℓ l l′ x →
+    Adding n ℓ k ws l₀ l′ y whole
 adding-next x y a d =
     record { done = a .done ++ x; added = added-both (a .added) d; is = append-assoc (a .done) x y ∙ a .is; ask = addable-after x y (a .ask) d }
 
 pub adding-end : {n ℓ k : ℕ} {ws l₀ l whole : List ℕ} → Adding n ℓ k ws l₀ l [] whole → Added n ℓ l₀ l whole
-adding-end {n} {ℓ} {l₀ = l₀} {l = l} a = rw (sym (append-none (a .done)) ∙ a .is) at (a .added)
+adding-end {n} {ℓ} {l₀ = l₀} {l = l} a = rw (sym (append-nil (a .done)) ∙ a .is) at (a .added)
 
 -- ---- one arrangement, as the code adds it
 
+-- a line's first black is 8 or 10
 pub black-in : (ℓ : ℕ) → (8 ≤ blackAt ℓ) × (blackAt ℓ < 11)
 unfolding blackAt
 black-in ℓ = go (ltb ℓ 9)
@@ -149,6 +151,10 @@ module _ {n ℓ k : ℕ} {ws l : List ℕ} (id : ℕ) (a : Addable n ℓ k ws l 
   word : getD ws id 0 ≡ wordOf n id
   word = a .words .each id y
 
+  support-still : (p v : ℕ) → p < 9 → v < 16 → support (joined ℓ l len id) (ℓ * 9 + p) v ≡ support l (ℓ * 9 + p) v
+  support-still p v h i = other (3007 + (ℓ * 9 + p) * 16 + v) (λ x. omega (arith, room, a .line)) (λ x. omega (arith, a .line))
+
+  -- its pattern can be added to the supports
   pub add-ask : WordAsk n ℓ k (getD ws id 0) (joined ℓ l len id)
   add-ask =
       record {
@@ -158,7 +164,7 @@ module _ {n ℓ k : ℕ} {ws l : List ℕ} (id : ℕ) (a : Addable n ℓ k ws l 
         first = omega (arith, a .black, black-in ℓ);
         second = omega (arith, a .black, black-in ℓ);
         long = joined-length ℓ l len id ∙ a .long;
-        low = λ p v h i. omega (arith, other (3007 + (ℓ * 9 + p) * 16 + v) (λ x. omega (arith, room, a .line)) (λ x. omega (arith, a .line)), a .low p v h i, a .room);
+        low = λ p v h i. omega (arith, support-still p v h i, a .low p v h i, a .room);
       }
 
   module _ {l₃ : List ℕ} (r : Raised ℓ (joined ℓ l len id) l₃ (part k (getD ws id 0))) where
@@ -179,6 +185,10 @@ module _ {n ℓ k : ℕ} {ws l : List ℕ} (id : ℕ) (a : Addable n ℓ k ws l 
     old-now : (j : ℕ) → j < len → live l₃ ℓ j ≡ live l ℓ j
     old-now j h = kept (1603 + ℓ * 78 + j) (omega (arith, room, a .line)) ∙ other (1603 + ℓ * 78 + j) (λ x. omega arith) (λ x. omega (arith, a .line))
 
+    old-list : map (λ j. live l₃ ℓ j) (span 0 len) ≡ listOf l ℓ
+    old-list = map-same (λ j. live l₃ ℓ j) (λ j. live l ℓ j) 0 len (λ j _ h. old-now j (omega arith)) ∙ ap (λ m. map (λ j. live l ℓ j) (span 0 m)) e
+
+    -- and then it is in the list
     pub add-done : Added n ℓ l l₃ (id ∷ [])
     unfolding tally.sum
     add-done =
@@ -187,10 +197,10 @@ module _ {n ℓ k : ℕ} {ws l : List ℕ} (id : ℕ) (a : Addable n ℓ k ws l 
           list =
               ap (λ m. map (λ j. live l₃ ℓ j) (span 0 m)) lives-now
               ∙ map-next (λ j. live l₃ ℓ j) len
-              ∙ ap₂ (λ x z. x ++ z ∷ []) (map-same (λ j. live l₃ ℓ j) (λ j. live l ℓ j) 0 len (λ j _ h. old-now j (omega arith)) ∙ ap (λ m. map (λ j. live l ℓ j) (span 0 m)) e) last-now;
+              ∙ ap₂ (λ x z. x ++ z ∷ []) old-list last-now;
           supports = λ p v h i.
               let x : part k (getD ws id 0) p v ≡ part (blackAt ℓ) (wordOf n id) p v = ap₂ (λ b w. part b w p v) (a .black) word in
-              omega (arith, r .supports p v h i, other (3007 + (ℓ * 9 + p) * 16 + v) (λ x. omega (arith, room, a .line)) (λ x. omega (arith, a .line)));
+              omega (arith, r .supports p v h i, support-still p v h i);
           rest = λ q h. r .rest q (h .supports) ∙ other q (λ x. h .list (omega arith) (omega (arith, room))) (h .count);
         }
 
@@ -211,7 +221,8 @@ module _ (f : ℕ → List ℕ) (ok : ℕ → Bool) (a m : ℕ) {n ℓ k : ℕ} 
 
 -- the starts of a subset
 module _ {n ℓ k : ℕ} {ws l₀ l whole : List ℕ} (outside : Bool) (s len a : ℕ) (d : Adding n ℓ k ws l₀ l (startsFrom n outside s len a) whole) where
-  pub starts-ask : StartsAsk n s len → (b : Bool) → b ≡ onSide n outside (a + len + 2) → a < n → b ≡ true → Addable n ℓ k ws l ((s * 9 + a) ∷ []) × Known n (s * 9 + a)
+  pub starts-ask : StartsAsk n s len → (b : Bool) → b ≡ onSide n outside (a + len + 2) → a < n → b ≡ true →
+      Addable n ℓ k ws l ((s * 9 + a) ∷ []) × Known n (s * 9 + a)
   unfolding startsFrom
   starts-ask q b e h t =
       let z = d .ask .size in
@@ -232,13 +243,17 @@ module _ {n ℓ k : ℕ} {ws l₀ l whole : List ℕ} (outside : Bool) (s len a 
   unfolding startsFrom
   starts-end h = scan-done _ _ a n d h
 
+-- the test of a subset, as the code makes it
+abbrev pub picks : ℕ → ℕ → ℕ → Bool
+picks n want s = eqb (sumIn s) want && ltb (maskIn s) (1 * 2 ^ (n - 1) % 65536)
+
 -- the subsets of one side
 module _ {n ℓ k : ℕ} {ws l₀ l whole : List ℕ} (outside : Bool) (want s : ℕ) (d : Adding n ℓ k ws l₀ l (sideFrom n outside want s) whole) where
-  is-wanted : (b : Bool) → b ≡ (eqb (sumIn s) want && ltb (maskIn s) (1 * 2 ^ (n - 1) % 65536)) → b ≡ wanted n want s
+  is-wanted : (b : Bool) → b ≡ picks n want s → b ≡ wanted n want s
   unfolding wanted
   is-wanted b e = e ∙ rw (shl-one (n - 1) (omega (arith, d .ask .size .high)))
 
-  pub side-ask : (b : Bool) → b ≡ (eqb (sumIn s) want && ltb (maskIn s) (1 * 2 ^ (n - 1) % 65536)) → s < 128 → b ≡ true → (len : ℕ) → len ≡ sizeIn s →
+  pub side-ask : (b : Bool) → b ≡ picks n want s → s < 128 → b ≡ true → (len : ℕ) → len ≡ sizeIn s →
       Addable n ℓ k ws l (startsFrom n outside s len 0) × StartsAsk n s len
   unfolding sideFrom wanted
   side-ask b e h t len f =
@@ -246,12 +261,12 @@ module _ {n ℓ k : ℕ} {ws l₀ l whole : List ℕ} (outside : Bool) (want s :
       let m = ltb-true (maskIn s) (2 ^ (n - 1)) (and-right (eqb (sumIn s) want) _ w) in
       rw f (scan-ask _ _ s 128 d h w, record { among = h; digits = m; few = subset-fits s h n (d .ask .size) m })
 
-  pub side-next : (b : Bool) → b ≡ (eqb (sumIn s) want && ltb (maskIn s) (1 * 2 ^ (n - 1) % 65536)) → s < 128 → b ≡ true → (len : ℕ) → len ≡ sizeIn s → {l′ : List ℕ} →
+  pub side-next : (b : Bool) → b ≡ picks n want s → s < 128 → b ≡ true → (len : ℕ) → len ≡ sizeIn s → {l′ : List ℕ} →
       Added n ℓ l l′ (startsFrom n outside s len 0) → Adding n ℓ k ws l₀ l′ (sideFrom n outside want (s + 1)) whole
   unfolding sideFrom
   side-next b e h t len f r = scan-next _ _ s 128 d h (sym (is-wanted b e) ∙ t) (rw f at r)
 
-  pub side-skip : (b : Bool) → b ≡ (eqb (sumIn s) want && ltb (maskIn s) (1 * 2 ^ (n - 1) % 65536)) → s < 128 → b ≡ false → Adding n ℓ k ws l₀ l (sideFrom n outside want (s + 1)) whole
+  pub side-skip : (b : Bool) → b ≡ picks n want s → s < 128 → b ≡ false → Adding n ℓ k ws l₀ l (sideFrom n outside want (s + 1)) whole
   unfolding sideFrom
   side-skip b e h t = scan-skip _ _ s 128 d h (sym (is-wanted b e) ∙ t)
 

@@ -50,6 +50,7 @@ module _ {n ℓ : ℕ} {l l′ : List ℕ} (t : ℕ) (z : Size n) (h : t ≤ max
   unfolding span
   listed = a .list ∙ ap (λ m. map (λ j. live l ℓ j) (span 0 m) ++ numbersFor n t) (u .none)
 
+  -- lists all arrangements of its target afterwards
   pub lists-added : Lists n ℓ t l′
   lists-added =
       record {
@@ -59,7 +60,9 @@ module _ {n ℓ : ℕ} {l l′ : List ℕ} (t : ℕ) (z : Size n) (h : t ≤ max
         supports = λ p v i k.
             let f : ℕ → ℕ = λ id. part (blackAt ℓ) (wordOf n id) p v in
             let e : tally.sum (map f (numbersFor n t)) ≡ sum 0 (lives l′ ℓ) (λ j. f (live l′ ℓ j)) =
-            ap (λ x. tally.sum (map f x)) (sym listed) ∙ ap tally.sum (map-map f (λ j. live l′ ℓ j) (span 0 (lives l′ ℓ))) ∙ sum-span (λ j. f (live l′ ℓ j)) 0 (lives l′ ℓ) in
+            ap (λ x. tally.sum (map f x)) (sym listed)
+            ∙ ap tally.sum (map-map f (λ j. live l′ ℓ j) (span 0 (lives l′ ℓ)))
+            ∙ sum-span (λ j. f (live l′ ℓ j)) 0 (lives l′ ℓ) in
             omega (arith, a .supports p v i k, u .supports p v i k);
       }
 
@@ -70,10 +73,13 @@ module _ (ℓ : ℕ) (l l′ : List ℕ) (h : ℓ < 18) (e : (q : ℕ) → 1585 
   lives-kept = e (1585 + ℓ) (omega arith) (λ m i d. record { count = λ x. d (omega arith); list = λ x y. omega arith; supports = λ x y. omega arith })
 
   live-kept : (j : ℕ) → j < 78 → live l′ ℓ j ≡ live l ℓ j
-  live-kept j k = e (1603 + ℓ * 78 + j) (omega arith) (λ m i d. record { count = λ x. omega arith; list = λ x y. d (omega arith); supports = λ x y. omega arith })
+  live-kept j k =
+      e (1603 + ℓ * 78 + j) (omega arith) (λ m i d. record { count = λ x. omega arith; list = λ x y. d (omega arith); supports = λ x y. omega arith })
 
   support-kept : (p v : ℕ) → p < 9 → v < 16 → support l′ (ℓ * 9 + p) v ≡ support l (ℓ * 9 + p) v
-  support-kept p v i k = e (3007 + (ℓ * 9 + p) * 16 + v) (omega arith) (λ m c d. record { count = λ x. omega arith; list = λ x y. omega arith; supports = λ x y. d (omega arith) })
+  support-kept p v i k =
+      e (3007 + (ℓ * 9 + p) * 16 + v) (omega arith)
+      (λ m c d. record { count = λ x. omega arith; list = λ x y. omega arith; supports = λ x y. d (omega arith) })
 
   pub unlisted-kept : Unlisted ℓ l → Unlisted ℓ l′
   unlisted-kept u = record { none = lives-kept ∙ u .none; supports = λ p v i k. support-kept p v i k ∙ u .supports p v i k }
@@ -94,19 +100,24 @@ module _ (ℓ : ℕ) (l l′ : List ℕ) (h : ℓ < 18) (e : (q : ℕ) → 1585 
     where
       same-list : listOf l′ ℓ ≡ listOf l ℓ
       same-list =
-          ap (λ m. map (λ j. live l′ ℓ j) (span 0 m)) lives-kept ∙ map-same (λ j. live l′ ℓ j) (λ j. live l ℓ j) 0 (lives l ℓ) (λ j x y. live-kept j (omega (arith, a .room)))
+          ap (λ m. map (λ j. live l′ ℓ j) (span 0 m)) lives-kept
+          ∙ map-same (λ j. live l′ ℓ j) (λ j. live l ℓ j) 0 (lives l ℓ) (λ j x y. live-kept j (omega (arith, a .room)))
 
 -- ---- one line after the other
 
 pub lines-start : (n from : ℕ) (ts l : List ℕ) → LinesTo n from 0 ts l l
 lines-start n from ts l = record { size = refl; each = λ i h. absurd (omega arith); rest = λ q h. refl }
 
-module _ {n from k : ℕ} {ws ts l l′ : List ℕ} (a : LinesAsk n from k ws ts l) (i : ℕ) (h : i < n) (d : LinesTo n from i ts l l′) (t : ℕ) (e : t ≡ getD ts i 0) where
+module _ {n from k : ℕ} {ws ts l l′ : List ℕ} (a : LinesAsk n from k ws ts l) (i : ℕ) (h : i < n) (d : LinesTo n from i ts l l′)
+    (t : ℕ) (e : t ≡ getD ts i 0) where
   within : t ≤ maxTarget n
   within = omega (arith, a .within i h)
 
   still : Unlisted (from + i) l′
-  still = unlisted-kept (from + i) l l′ (omega (arith, a .lines)) (λ q _ f. d .rest q (λ j x. f (from + j) (omega (arith, a .lines)) (λ y. omega arith))) (a .unlisted i h)
+  still =
+      unlisted-kept (from + i) l l′ (omega (arith, a .lines))
+      (λ q _ f. d .rest q (λ j x. f (from + j) (omega (arith, a .lines)) (λ y. omega arith)))
+      (a .unlisted i h)
 
   pub lines-ask : Addable n (from + i) k ws l′ (numbersFor n t) × (t ≤ maxTarget n)
   lines-ask = (
@@ -133,7 +144,9 @@ module _ {n from k : ℕ} {ws ts l l′ : List ℕ} (a : LinesAsk n from k ws ts
       one : (j : ℕ) → j < i + 1 → Dec (j ≡ i) → Lists n (from + j) (getD ts j 0) l″
       one j x (yes y) = rw (y, ← e) (lists-added t (a .size) within still r)
       one j x (no y) =
-          lists-kept (from + j) l′ l″ (omega (arith, a .lines)) (λ q _ f. r .rest q (f (from + i) (omega (arith, a .lines)) (λ z. y (omega arith)))) (d .each j (omega arith))
+          lists-kept (from + j) l′ l″ (omega (arith, a .lines))
+          (λ q _ f. r .rest q (f (from + i) (omega (arith, a .lines)) (λ z. y (omega arith))))
+          (d .each j (omega arith))
 
 -- ---- the rows, then the columns
 
@@ -168,9 +181,12 @@ module _ {n : ℕ} {ws rows columns l : List ℕ} (a : OpenAsk n ws rows columns
           targets = a .columns-long;
           within = a .columns-within;
           unlisted = λ i h.
-              unlisted-kept (9 + i) l l₁ (omega (arith, a .size .high)) (λ q _ f. r .rest q (λ j x. f (0 + j) (omega (arith, a .size .high)) (λ y. omega (arith, a .size .high)))) (fresh-unlisted n (9 + i) l (a .fresh));
+              unlisted-kept (9 + i) l l₁ (omega (arith, a .size .high))
+              (λ q _ f. r .rest q (λ j x. f (0 + j) (omega (arith, a .size .high)) (λ y. omega (arith, a .size .high))))
+              (fresh-unlisted n (9 + i) l (a .fresh));
         }
 
+    -- then every line lists its arrangements
     pub all-arranged : {l₂ : List ℕ} → LinesTo n 9 n columns l₁ l₂ → Arranged n rows columns l l₂
     unfolding LineOf targetAt
     all-arranged {l₂} s =
@@ -186,7 +202,9 @@ module _ {n : ℕ} {ws rows columns l : List ℕ} (a : OpenAsk n ws rows columns
         row ℓ h =
             let e : 0 + ℓ ≡ ℓ = omega arith in
             rw (lt-ltb ℓ 9 (omega (arith, a .size .high)))
-            (lists-kept ℓ l₁ l₂ (omega (arith, a .size .high)) (λ q _ f. s .rest q (λ j x. f (9 + j) (omega (arith, a .size .high)) (λ y. omega (arith, a .size .high)))) (rw e at (r .each ℓ h)))
+            (lists-kept ℓ l₁ l₂ (omega (arith, a .size .high))
+            (λ q _ f. s .rest q (λ j x. f (9 + j) (omega (arith, a .size .high)) (λ y. omega (arith, a .size .high))))
+            (rw e at (r .each ℓ h)))
 
         column : (ℓ : ℕ) → 9 ≤ ℓ → ℓ < 9 + n → Lists n ℓ (targetAt rows columns ℓ) l₂
         column ℓ g h =

@@ -68,7 +68,8 @@ pub record WordAsk (n ℓ k w : ℕ) (l : List ℕ) : Type 0 where
 pub record Added (n ℓ : ℕ) (l l′ ids : List ℕ) : Type 0 where
   pub size : length l′ ≡ length l
   pub list : listOf l′ ℓ ≡ listOf l ℓ ++ ids
-  pub supports : (p v : ℕ) → p < 9 → v < 16 → support l′ (ℓ * 9 + p) v ≡ support l (ℓ * 9 + p) v + tally.sum (map (λ id. part (blackAt ℓ) (wordOf n id) p v) ids)
+  pub supports : (p v : ℕ) → p < 9 → v < 16 →
+      support l′ (ℓ * 9 + p) v ≡ support l (ℓ * 9 + p) v + tally.sum (map (λ id. part (blackAt ℓ) (wordOf n id) p v) ids)
   pub rest : (q : ℕ) → Elsewhere ℓ q → getD l′ q 0 ≡ getD l q 0
 
 -- They can be: there is room for them.

@@ -44,7 +44,9 @@ list-test n t =
     leb (length (numbersFor n t)) 78 && (all (known-test n) (numbersFor n t) && sameAll (map (arrangementOf n) (numbersFor n t)) (arrangements n t))
 
 list-tests : all (λ n. all (list-test n) (span 0 (maxTarget n + 1))) (span 2 8) ≡ true
-unfolding list-test known-test sameAll sameOne alike same numbersFor sideFrom wanted startsFrom onSide scan arrangementOf digitsOf subset subsetTable arrangements insides outsides fromStarts subsetsWith subsets digits meets maxTarget span all keep join sum bit
+unfolding
+    list-test known-test sameAll sameOne alike same numbersFor sideFrom wanted startsFrom onSide scan arrangementOf digitsOf subset subsetTable
+    arrangements insides outsides fromStarts subsetsWith subsets digits meets maxTarget span all keep join sum bit
 list-tests = refl
 
 -- ---- what the test says
@@ -97,4 +99,8 @@ module _ (n t : ℕ) (z : Size n) (h : t ≤ maxTarget n) where
       let a : all (known-test n) (map f (span 0 k)) ≡ true = ap (all (known-test n)) e ∙ and-left _ _ others in
       let b = all-each (λ i. known-test n (f i)) (span-mem 0 k j (omega arith) (omega arith)) (sym (all-of-map (known-test n) f (span 0 k)) ∙ a) in
       let c = and-right (ltb (f j) 1152) _ b in
-      record { within = ltb-true _ _ (and-left (ltb (f j) 1152) _ b); starts = ltb-true _ _ (and-left (ltb (f j % 9) n) _ c); digits = ltb-true _ _ (and-right (ltb (f j % 9) n) _ c) }
+      record {
+        within = ltb-true _ _ (and-left (ltb (f j) 1152) _ b);
+        starts = ltb-true _ _ (and-left (ltb (f j % 9) n) _ c);
+        digits = ltb-true _ _ (and-right (ltb (f j % 9) n) _ c);
+      }

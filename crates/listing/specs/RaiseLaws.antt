@@ -239,9 +239,12 @@ module _ {n ℓ k w : ℕ} {l : List ℕ} (a : WordAsk n ℓ k w l) (x y : ℕ) 
 
   pub word-raised : {l₁ l₂ l₃ : List ℕ} → Raised ℓ l l₁ (one x k) → Raised ℓ l₁ l₂ (one y (k + 1)) → Raised ℓ l₂ l₃ (innerTo n w) → Raised ℓ l l₃ (part k w)
   unfolding one innerTo
-  word-raised r s t = raised-both (part k w) (raised-both (λ p v. one x k p v + one y (k + 1) p v) r s (λ p v _ _. refl)) t (λ p v h b. rw (ex, ey) (sums p v h b (decLt v 8)))
+  word-raised r s t =
+      raised-both (part k w) (raised-both (λ p v. one x k p v + one y (k + 1) p v) r s (λ p v _ _. refl)) t
+      (λ p v h b. rw (ex, ey) (sums p v h b (decLt v 8)))
     where
-      blacks : (p v : ℕ) → p < 9 → 8 ≤ v → v < 16 → Dec (v ≡ k) → Dec (v ≡ suc k) → part k w p v ≡ same (p * 16 + v) (firstOf w * 16 + k) + same (p * 16 + v) (secondOf w * 16 + (k + 1))
+      blacks : (p v : ℕ) → p < 9 → 8 ≤ v → v < 16 → Dec (v ≡ k) → Dec (v ≡ suc k) →
+          part k w p v ≡ same (p * 16 + v) (firstOf w * 16 + k) + same (p * 16 + v) (secondOf w * 16 + (k + 1))
       blacks p v h c b (yes d) e =
           let q : part k w p v ≡ same (firstOf w) p = rw d (part-first k w p (a .first)) in
           omega (arith, same-place (firstOf w) p k v d, same-no (p * 16 + v) (secondOf w * 16 + (k + 1)) (λ q. omega (arith, a .second)))
@@ -250,7 +253,11 @@ module _ {n ℓ k w : ℕ} {l : List ℕ} (a : WordAsk n ℓ k w l) (x y : ℕ) 
           omega (arith, same-place (secondOf w) p (k + 1) v (omega arith), same-no (p * 16 + v) (firstOf w * 16 + k) (λ q. omega (arith, a .second)))
       blacks p v h c b (no d) (no e) =
           part-other k w p v c d e
-          ∙ omega (arith, same-no (p * 16 + v) (secondOf w * 16 + (k + 1)) (λ q. e (omega (arith, a .second))), same-no (p * 16 + v) (firstOf w * 16 + k) (λ q. d (omega (arith, a .second))))
+          ∙ omega (
+            arith,
+            same-no (p * 16 + v) (secondOf w * 16 + (k + 1)) (λ q. e (omega (arith, a .second))),
+            same-no (p * 16 + v) (firstOf w * 16 + k) (λ q. d (omega (arith, a .second))),
+          )
 
       inner : (p v : ℕ) → p < 9 → Dec (p < n) → innerTo n w p v ≡ min (bit v (setOf w)) (bit p (innerOf w))
       inner p v h (yes c) = rw (lt-ltb p n c)

@@ -14,7 +14,8 @@ ghost use lib.Dec.{eqb, ltb};
 ghost use Rattle.rules.specs.Check.{maxTarget};
 ghost use Rattle.words.specs.Word.{part, Known};
 ghost use Rattle.listing.specs.Numbers.{onSide, startsFrom, sideFrom, numbersFor};
-ghost use Rattle.listing.specs.Listing.{Raised, one, digitsAt, innerTo, Raisable, WordAsk, Added, Addable, StartsAsk, LinesAsk, LinesTo, OpenAsk, Arranged};
+ghost use Rattle.listing.specs.Listing.{Raised, one, digitsAt, innerTo, Raisable, WordAsk, Added, Addable, StartsAsk};
+ghost use Rattle.listing.specs.Listing.{LinesAsk, LinesTo, OpenAsk, Arranged};
 
 // One more arrangement has the value v at place p of a line.
 fn raise_support(st: &mut [u16], line: usize, p: usize, v: usize)

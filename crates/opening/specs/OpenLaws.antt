@@ -49,6 +49,7 @@ module _ (l l′ : List ℕ) (s : Sized l) (long : length l′ ≡ length l) (e 
   waits-kept h d =
       rw tail-kept (sum-same h (tail l - h) (λ i. same d (entry l′ i)) (λ i. same d (entry l i)) (λ i a b. ap (same d) (entry-kept i (omega arith))))
 
+  -- no candidate went, and every lag is as it was
   counters-grown : Grown l l′
   unfolding lag
   counters-grown =
@@ -117,7 +118,8 @@ module _ {n : ℕ} {ws rows columns l l₁ : List ℕ} (a : OpenAsk n ws rows co
   module _ {l₂ : List ℕ} (s : Struck l₁ l₂ (BareTo l₁ n n)) where
     lists : (ℓ : ℕ) → LineOf n ℓ → Lists n ℓ (targetAt rows columns ℓ) l₂
     unfolding LineOf
-    lists ℓ o = lists-kept ℓ l₁ l₂ (⊎-elim (λ h. omega (arith, a .size .high)) (λ h. omega (arith, a .size .high)) o) (λ q h _. s .rest q (omega arith)) (d .each ℓ o)
+    lists ℓ o =
+        lists-kept ℓ l₁ l₂ (⊎-elim (λ h. omega (arith, a .size .high)) (λ h. omega (arith, a .size .high)) o) (λ q h _. s .rest q (omega arith)) (d .each ℓ o)
 
     -- a cell of the line is one of the grid
     valid : (ℓ p v : ℕ) → LineOf n ℓ → p < n → ValueOf n v → Valid n (cellAt ℓ p) v
@@ -152,12 +154,15 @@ module _ {n : ℕ} {ws rows columns l l₁ : List ℕ} (a : OpenAsk n ws rows co
         ∙ fresh-lag (a .size) (a .fresh) x v
         ∙ fresh-full (a .size) (a .fresh) x v h w
 
+    -- so each place that a listed arrangement covers is served
     alive : (ℓ : ℕ) → LineOf n ℓ → (j : ℕ) → j < lives l₂ ℓ → Alive n ℓ l₂ 0 (live l₂ ℓ j)
     unfolding Alive
     alive ℓ o j i p v h k e =
         let y = lists ℓ o .known j i in
-        record { value = v; narrow = k; allowed = e; lags = omega (arith, lags (cellAt ℓ p) v k (valid ℓ p v o h (part-value n ℓ (live l₂ ℓ j) p v (a .size) y e))) }
+        let w = part-value n ℓ (live l₂ ℓ j) p v (a .size) y e in
+        record { value = v; narrow = k; allowed = e; lags = omega (arith, lags (cellAt ℓ p) v k (valid ℓ p v o h w)) }
 
+    -- what seeding strikes lies in no live arrangement of one of its lines
     unsupported : (x v : ℕ) → BareTo l₁ n n x v → Unsupported n l₂ x v
     unfolding BareTo LineOf cellAt blackAt
     unsupported x v b = go (b .2)
@@ -191,6 +196,7 @@ module _ {n : ℕ} {ws rows columns l l₁ : List ℕ} (a : OpenAsk n ws rows co
     kept p h (inr i) =
         List·getD-eq-default l₂ 0 (omega (arith, s .grown .size, d .size, a .fresh .size)) ∙ sym (List·getD-eq-default l 0 (omega (arith, a .fresh .size)))
 
+    -- listing and seeding open the state
     pub opened : Opened n rows columns l l₂
     opened =
         record {

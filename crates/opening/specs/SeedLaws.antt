@@ -109,7 +109,8 @@ module _ (a b x y z m : ℕ) (e : m ≡ max (max (min a x) (min b y)) (min (max 
 module _ (l : List ℕ) (r c a b : ℕ) (la : Lacks l (r * 9 + c) 12 a) (lb : Lacks l ((9 + c) * 9 + r) 12 b) where
   at-digit : (v : ℕ) → v < 8 → bit v (bareMask a b) ≡ max (1 - support l (r * 9 + c) v) (1 - support l ((9 + c) * 9 + r) v)
   at-digit v h =
-      take-digit _ _ _ _ _ _ (bare-bit a b v) (mask-digit v (omega arith) h) (bit-lt v a) (bit-lt v b) ∙ ap₂ max (la .below v (omega arith)) (lb .below v (omega arith))
+      take-digit _ _ _ _ _ _ (bare-bit a b v) (mask-digit v (omega arith) h) (bit-lt v a) (bit-lt v b)
+      ∙ ap₂ max (la .below v (omega arith)) (lb .below v (omega arith))
 
   at-row : (v : ℕ) → 8 ≤ v → v < 10 → bit v (bareMask a b) ≡ 1 - support l (r * 9 + c) v
   at-row v h k = take-row _ _ _ _ _ _ (bare-bit a b v) (mask-row v (omega arith) h k) (bit-lt v a) ∙ la .below v (omega arith)
@@ -148,6 +149,7 @@ module _ (l : List ℕ) (r c a b : ℕ) (la : Lacks l (r * 9 + c) 12 a) (lb : La
       let f : support l ((9 + c) * 9 + r) v ≡ 0 = rw (ex, ey) at e in
       ⊎-elim (λ h. at-digit v h ∙ omega arith) (λ h. at-column v (h .0) (omega (arith, h .1)) ∙ omega arith) i
 
+  -- so clearing the mask strikes those, and nothing else
   pub cell-struck : c < 9 → {l′ : List ℕ} → Struck l l′ (Masked (r * 9 + c) (bareMask a b)) → Struck l l′ (BareCell l (r * 9 + c))
   unfolding Masked BareCell
   cell-struck h s =
@@ -176,7 +178,8 @@ row-next {l₀} {l} r c h p q =
     (λ x v i. ⊎-elim (λ b. (b .0, omega (arith, b .1), b .2)) (λ b. (omega (arith, b .0), omega (arith, b .0), bare-same (p .rest) x v (b .1))))
     (λ x v i b. inl (split x v b (decLt (x % 9) c)))
   where
-    split : (x v : ℕ) → (x / 9 ≡ r) × (x % 9 < c + 1) × Bare l₀ x v → Dec (x % 9 < c) → ((x / 9 ≡ r) × (x % 9 < c) × Bare l₀ x v) ⊎ ((x ≡ r * 9 + c) × Bare l x v)
+    split : (x v : ℕ) → (x / 9 ≡ r) × (x % 9 < c + 1) × Bare l₀ x v → Dec (x % 9 < c) →
+        ((x / 9 ≡ r) × (x % 9 < c) × Bare l₀ x v) ⊎ ((x ≡ r * 9 + c) × Bare l x v)
     split x v b (yes d) = inl (b .0, d, b .2)
     split x v b (no d) = inr (omega (arith, b .0, b .1), bare-back (p .rest) x v (b .2))
 
@@ -191,6 +194,7 @@ queue-next {l₀} {l} n r p q =
     (λ x v i. ⊎-elim (λ b. (omega (arith, b .0), b .1, b .2)) (λ b. (omega (arith, b .0), b .1, bare-same (p .rest) x v (b .2))))
     (λ x v i b. inl (split x v b (decLt (x / 9) r)))
   where
-    split : (x v : ℕ) → (x / 9 < r + 1) × (x % 9 < n) × Bare l₀ x v → Dec (x / 9 < r) → ((x / 9 < r) × (x % 9 < n) × Bare l₀ x v) ⊎ ((x / 9 ≡ r) × (x % 9 < n) × Bare l x v)
+    split : (x v : ℕ) → (x / 9 < r + 1) × (x % 9 < n) × Bare l₀ x v → Dec (x / 9 < r) →
+        ((x / 9 < r) × (x % 9 < n) × Bare l₀ x v) ⊎ ((x / 9 ≡ r) × (x % 9 < n) × Bare l x v)
     split x v b (yes d) = inl (d, b .1, b .2)
     split x v b (no d) = inr (omega (arith, b .0), b .1, bare-back (p .rest) x v (b .2))

@@ -43,7 +43,7 @@ flows-both a b = record { flow = λ p q k. let x = a .flow p q k in let y = b .f
 
 module _ (p : Puzzle) (z : p .size ≤ 9) where
   is-table : (l : List ℕ) {t : Table} → TableIs l t → SameGrids p t (tableIn l)
-  is-table l h = same-ext p z (λ r c v hr hc m. sym (h r c v (omega arith) (omega arith) (value-small (p .size) v z m)))
+  is-table l h = same-ext p z (λ r c v hr hc m. sym (h .is r c v (omega arith) (omega arith) (value-small (p .size) v z m)))
 
   forced-taken : (l : List ℕ) (t : Table) (ℓ : Line) (i v : ℕ) → index ℓ < p .size → i < p .size → IsValue (p .size) v → Forced p t (rowOf ℓ i) (columnOf ℓ i) v →
       TableIs l (taken t (rowOf ℓ i) (columnOf ℓ i) v) → SameGrids p t (tableIn l)

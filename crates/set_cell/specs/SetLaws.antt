@@ -178,10 +178,12 @@ set-table {l} {l′} r c v s i j w hi hj hw = go (strikes r c v i j w) refl (ℕ
     ej : (i * 9 + j) % 9 ≡ j
     ej = omega arith
 
-    go : (b : Bool) → strikes r c v i j w ≡ b → Dec (cand l (i * 9 + j) w ≡ 1) → Dec (cand l′ (i * 9 + j) w ≡ 0) → tableIn l′ i j w ≡ (tableIn l i j w && not (strikes r c v i j w))
+    go : (b : Bool) → strikes r c v i j w ≡ b → Dec (cand l (i * 9 + j) w ≡ 1) → Dec (cand l′ (i * 9 + j) w ≡ 0) → tableIn l′ i j w ≡
+        (tableIn l i j w && not (strikes r c v i j w))
     go true t d e = rw t (no-table l′ i j w (s .gone (i * 9 + j) w hw (rw (ei, ej) t)) ∙ sym (and-none (tableIn l i j w)))
     go false t (yes d) (yes e) = absurd (true≢false (sym (rw (ei, ej) at (s .only (i * 9 + j) w hw d e)) ∙ t))
-    go false t (yes d) (no e) = rw t (yes-table l′ i j w (omega (arith, cand-lt l′ (i * 9 + j) w)) ∙ sym (yes-table l i j w d) ∙ sym (and-only (tableIn l i j w)))
+    go false t (yes d) (no e) = rw t (yes-table l′ i j w (omega (arith, cand-lt l′ (i * 9 + j) w)) ∙ sym (yes-table l i j w d) ∙ sym
+        (and-only (tableIn l i j w)))
     go false t (no d) e =
         let z : cand l (i * 9 + j) w ≡ 0 = omega (arith, cand-lt l (i * 9 + j) w) in
         rw t (no-table l′ i j w (omega (arith, s .grown .sub (i * 9 + j) w hw)) ∙ sym (no-table l i j w z) ∙ sym (and-only (tableIn l i j w)))

@@ -100,12 +100,14 @@ module _ {n counter x mask : ℕ} {own : Bool} {l : List ℕ} {ℓ : Line} {i h 
       most : sum 0 2 (λ (j : ℕ). cand l x (ownBlack ℓ + j)) ≤ getD l₂ counter 0
       most =
           rw (a .at-counter)
-          (ruled-most (cellBlacks ℓ) 0 (NoBlacks (crossBlack ℓ)) (fine-blacks ℓ) n high narrow (a .next) (a .blacks) x (v - ownBlack ℓ) grid (omega (arith, own-range)) refl
+          (ruled-most (cellBlacks ℓ) 0 (NoBlacks (crossBlack ℓ)) (fine-blacks ℓ) n high narrow (a .next) (a .blacks) x (v - ownBlack ℓ) grid
+          (omega (arith, own-range)) refl
           (omega (arith, own-range)) fell)
 
       finish : (getD l₂ counter 0 ≤ 0 → NoBlacks (crossBlack ℓ) l₂ x) → BlacksOf ℓ n l₂ (h + 1)
       finish r =
-          ruled-done (cellBlacks ℓ) 0 (NoBlacks (crossBlack ℓ)) (fine-blacks ℓ) n high narrow (a .next) (a .blacks) x (v - ownBlack ℓ) grid (omega (arith, own-range)) refl
+          ruled-done (cellBlacks ℓ) 0 (NoBlacks (crossBlack ℓ)) (fine-blacks ℓ) n high narrow (a .next) (a .blacks) x (v - ownBlack ℓ) grid
+          (omega (arith, own-range)) refl
           (omega (arith, own-range)) fell (λ m. r (rw (a .at-counter) m))
 
       -- one is left
@@ -126,8 +128,10 @@ module _ {n counter x mask : ℕ} {own : Bool} {l : List ℕ} {ℓ : Line} {i h 
       pub blacks-cleared : BlacksOf ℓ n l₂ (h + 1)
       blacks-cleared =
           finish (fell-struck from f s) (λ m. (
-            hit (crossBlack ℓ) (omega (arith, black-range ℓ)) (or-left (eqb (crossBlack ℓ) (crossBlack ℓ)) (eqb (crossBlack ℓ) (crossBlack ℓ + 1)) (eq-eqb (crossBlack ℓ) (crossBlack ℓ) refl)),
-            hit (crossBlack ℓ + 1) (omega (arith, black-range ℓ)) (or-right (eqb (crossBlack ℓ + 1) (crossBlack ℓ)) (eqb (crossBlack ℓ + 1) (crossBlack ℓ + 1)) (eq-eqb (crossBlack ℓ + 1) (crossBlack ℓ + 1) refl)),
+            hit (crossBlack ℓ) (omega (arith, black-range ℓ)) (or-left (eqb (crossBlack ℓ) (crossBlack ℓ)) (eqb (crossBlack ℓ) (crossBlack ℓ + 1))
+                (eq-eqb (crossBlack ℓ) (crossBlack ℓ) refl)),
+            hit (crossBlack ℓ + 1) (omega (arith, black-range ℓ)) (or-right (eqb (crossBlack ℓ + 1) (crossBlack ℓ)) (eqb (crossBlack ℓ + 1) (crossBlack ℓ + 1))
+                (eq-eqb (crossBlack ℓ + 1) (crossBlack ℓ + 1) refl)),
           ))
 
       pub blacks-reason : getD l₁ counter 0 ≡ 0 → Reason n l₁ l₂

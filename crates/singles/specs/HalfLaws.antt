@@ -100,7 +100,8 @@ module _ {n counter x mask : ℕ} {own : Bool} {l : List ℕ} {ℓ : Line} {i h 
           from = from;
           to = omega (arith, a .at-counter, base-range ℓ, grid, high);
           positive = rw (a .at-counter)
-              (ruled-positive (halves ℓ) 1 (AllSet (halves ℓ)) (fine-halves ℓ) n high (omega (arith, range)) (a .next) (a .halves) x (own-place .place) grid (own-place .small)
+              (ruled-positive (halves ℓ) 1 (AllSet (halves ℓ)) (fine-halves ℓ) n high (omega (arith, range)) (a .next) (a .halves) x (own-place .place) grid
+              (own-place .small)
               refl (own-place .is));
         }
 
@@ -111,12 +112,14 @@ module _ {n counter x mask : ℕ} {own : Bool} {l : List ℕ} {ℓ : Line} {i h 
       most : sum 0 9 (λ (j : ℕ). cand l x (halfValue ℓ j)) ≤ getD l₂ counter 0
       most =
           rw (a .at-counter)
-          (ruled-most (halves ℓ) 1 (AllSet (halves ℓ)) (fine-halves ℓ) n high (omega (arith, range)) (a .next) (a .halves) x (own-place .place) grid (own-place .small) refl
+          (ruled-most (halves ℓ) 1 (AllSet (halves ℓ)) (fine-halves ℓ) n high (omega (arith, range)) (a .next) (a .halves) x (own-place .place) grid
+          (own-place .small) refl
           (own-place .is) fell)
 
       finish : (getD l₂ counter 0 ≤ 1 → AllSet (halves ℓ) l₂ x) → HalvesOf ℓ n l₂ (h + 1)
       finish r =
-          ruled-done (halves ℓ) 1 (AllSet (halves ℓ)) (fine-halves ℓ) n high (omega (arith, range)) (a .next) (a .halves) x (own-place .place) grid (own-place .small) refl
+          ruled-done (halves ℓ) 1 (AllSet (halves ℓ)) (fine-halves ℓ) n high (omega (arith, range)) (a .next) (a .halves) x (own-place .place) grid
+          (own-place .small) refl
           (own-place .is) fell (λ m. r (rw (a .at-counter) m))
 
       gone : (w : ℕ) → w < 16 → cand l x w ≡ 0 → cand l₂ x w ≡ 0
@@ -146,11 +149,17 @@ module _ {n counter x mask : ℕ} {own : Bool} {l : List ℕ} {ℓ : Line} {i h 
       narrow = rw (a .at-mask) (mask-narrow ℓ)
 
       -- a candidate of a half that has no other
-      alone : getD l₂ counter 0 ≤ 1 → (j : ℕ) → j < 9 → cand l₂ x (halfValue ℓ j) ≡ 1 → (w : ℕ) → w < 16 → bit w mask ≡ 1 → (w ≡ halfValue ℓ j → ⊥) → bit w (getD l₂ x 0) ≡ 0
+      alone : getD l₂ counter 0 ≤ 1 → (j : ℕ) → j < 9 → cand l₂ x (halfValue ℓ j) ≡ 1 → (w : ℕ) → w < 16 → bit w mask ≡ 1 → (w ≡ halfValue ℓ j → ⊥) → bit w
+          (getD l₂ x 0) ≡ 0
       alone m j b e w k u d =
           let q = of-mask w k u in
           let p = half-place ℓ w (q .0) (q .1) (q .2) in
-          let c : cand l x (halfValue ℓ j) ≡ 1 = omega (arith, f .grown .sub x (halfValue ℓ j) (omega (arith, value-narrow ℓ j b)), cand-lt l x (halfValue ℓ j)) in
+          let c : cand l x (halfValue ℓ j) ≡ 1 = omega (
+            arith,
+            f .grown .sub x (halfValue ℓ j) (omega (arith, value-narrow ℓ j b)),
+            cand-lt l x
+                (halfValue ℓ j),
+          ) in
           let z : cand l x (halfValue ℓ (p .place)) ≡ 0 =
           sum-lone 0 9 j (p .place) (λ (j : ℕ). cand l x (halfValue ℓ j)) (omega arith) (omega arith) (omega arith) (omega (arith, p .small))
           (λ r. d (sym (p .is) ∙ ap (halfValue ℓ) r)) c (omega (arith, most)) in
@@ -249,7 +258,8 @@ module _ {n counter x mask : ℕ} {own : Bool} {l : List ℕ} (a : HalfAsk n l o
           pub half-set-ask : SetAsk n l₁ (x / 9) (x % 9) (trailingZeros 16 (bitAnd (getD l₁ x 0) mask))
           half-set-ask = half-ask (a .ready) (a .half) t fell-one k o
 
-          pub half-settled : {l₂ : List ℕ} → Struck l₁ l₂ (SetHit (x / 9) (x % 9) (trailingZeros 16 (bitAnd (getD l₁ x 0) mask))) → HalfDone n l l₂ own counter x mask
+          pub half-settled : {l₂ : List ℕ} → Struck l₁ l₂ (SetHit (x / 9) (x % 9) (trailingZeros 16 (bitAnd (getD l₁ x 0) mask))) →
+              HalfDone n l l₂ own counter x mask
           half-settled s =
               record {
                 moved = fell-moved (fell-struck (half-lower .from) fell-one s) (omega arith) (omega arith);

@@ -24,17 +24,25 @@ lone-bit x m hx hm e = let w = ones-one 16 (bitAnd x m) (and-lt 16 x m hx hm) e 
     go k h p =
         let t : trailingZeros 16 (bitAnd x m) ≡ k = ap (trailingZeros 16) p ∙ trailing-pow 16 k h in
         let b : min (bit k x) (bit k m) ≡ 1 = sym (bit-and k x m) ∙ ap (bit k) p ∙ bit-pow-same k in
-        rw t (record { narrow = h; here = omega (arith, bit-lt k x, bit-lt k m); within = omega (arith, bit-lt k x, bit-lt k m); only = λ j a c. same j a c (ℕ-discrete j k) })
+        rw t (record {
+          narrow = h;
+          here = omega (arith, bit-lt k x, bit-lt k m);
+          within = omega (arith, bit-lt k x, bit-lt k m);
+          only = λ j a c. same j a c
+              (ℕ-discrete j k);
+        })
       where
         same : (j : ℕ) → bit j x ≡ 1 → bit j m ≡ 1 → Dec (j ≡ k) → j ≡ k
         same j a c (yes d) = d
         same j a c (no d) = absurd (omega (arith, sym (bit-and j x m) ∙ ap (bit j) p ∙ bit-pow-other j k d))
 
 -- where a bit is alone, one is counted
-pub bit-alone : (x m k : ℕ) → x < 2 ^ 16 → m < 2 ^ 16 → k < 16 → bit k x ≡ 1 → bit k m ≡ 1 → ((j : ℕ) → j < 16 → bit j m ≡ 1 → (j ≡ k → ⊥) → bit j x ≡ 0) → ones (bitAnd x m) ≡ 1
+pub bit-alone : (x m k : ℕ) → x < 2 ^ 16 → m < 2 ^ 16 → k < 16 → bit k x ≡ 1 → bit k m ≡ 1 → ((j : ℕ) → j < 16 → bit j m ≡ 1 → (j ≡ k → ⊥) → bit j x ≡ 0) → ones
+    (bitAnd x m) ≡ 1
 bit-alone x m k hx hm hk a b f =
     ones-sum 16 (bitAnd x m) (and-lt 16 x m hx hm)
-    ∙ sum-one 0 16 k (λ (j : ℕ). bit j (bitAnd x m)) (omega arith) (omega arith) (bit-and k x m ∙ omega arith) (λ j p q d. bit-and j x m ∙ none j (omega arith) d (ℕ-discrete (bit j m) 1))
+    ∙ sum-one 0 16 k (λ (j : ℕ). bit j (bitAnd x m)) (omega arith) (omega arith) (bit-and k x m ∙ omega arith)
+    (λ j p q d. bit-and j x m ∙ none j (omega arith) d (ℕ-discrete (bit j m) 1))
   where
     none : (j : ℕ) → j < 16 → (j ≡ k → ⊥) → Dec (bit j m ≡ 1) → min (bit j x) (bit j m) ≡ 0
     none j h d (yes e) = omega (arith, f j h e d)

@@ -29,7 +29,8 @@ base-range : (ℓ : Line) → (1135 ≤ placesBase ℓ) × (placesBase ℓ ≤ 1
 base-range (across r) = omega arith
 base-range (down c) = omega arith
 
-module _ {n counter start stride v : ℕ} {own : Bool} {l : List ℕ} {ℓ : Line} {i h : ℕ} (ready : Ready n l) (a : PlacesAt n l own counter start stride v ℓ i h) where
+module _ {n counter start stride v : ℕ} {own : Bool} {l : List ℕ} {ℓ : Line} {i h : ℕ} (ready : Ready n l)
+    (a : PlacesAt n l own counter start stride v ℓ i h) where
   high : n ≤ 9
   high = ready .size .high
 
@@ -77,7 +78,8 @@ module _ {n counter start stride v : ℕ} {own : Bool} {l : List ℕ} {ℓ : Lin
       most =
           let m = ruled-most (linePlaces ℓ) 1 (AllSet (linePlaces ℓ)) (fine-places ℓ) n high narrow (a .next) (a .places) (index ℓ * 16 + v) i used
           (omega (arith, a .place, high)) (counter-cell ℓ v narrow i) (counter-value ℓ v narrow) fell in
-          let e = sum-same 0 9 (λ (j : ℕ). cand l (linePlaces ℓ .cell (index ℓ * 16 + v) j) ((index ℓ * 16 + v) % 16)) (λ (j : ℕ). cand l (cellOf ℓ j) v) (λ j p q. counted j) in
+          let e = sum-same 0 9 (λ (j : ℕ). cand l (linePlaces ℓ .cell (index ℓ * 16 + v) j) ((index ℓ * 16 + v) % 16)) (λ (j : ℕ). cand l (cellOf ℓ j) v)
+          (λ j p q. counted j) in
           rw (a .at-counter) (omega (arith, m, e))
 
       finish : (getD l₂ counter 0 ≤ 1 → (j : ℕ) → j < 9 → IsSet l₂ (cellOf ℓ j) v) → PlacesOf ℓ n l₂ (h + 1)
@@ -151,7 +153,8 @@ module _ {n counter start stride v : ℕ} {own : Bool} {l : List ℕ} {ℓ : Lin
                 absurd (omega (
                   arith,
                   had j (place-yes l₁ ℓ j v e),
-                  sum-lone 0 9 p j (λ (j : ℕ). cand l (cellOf ℓ j) v) (omega arith) (omega (arith, high)) (omega arith) (omega (arith, high)) q (had p here) (omega (arith, most f)),
+                  sum-lone 0 9 p j (λ (j : ℕ). cand l (cellOf ℓ j) v) (omega arith) (omega (arith, high)) (omega arith) (omega (arith, high)) q (had p here)
+                      (omega (arith, most f)),
                 ))
 
 -- ---- the ways out, as the code has them
@@ -206,10 +209,12 @@ module _ {n counter start stride v : ℕ} {own : Bool} {l : List ℕ} (a : Place
           pub place-cell : start + p * stride < 81
           place-cell = cells .inside p k
 
-          pub place-settled : {l₂ : List ℕ} → r ≡ 1 → Struck l₁ l₂ (SetHit ((start + p * stride) / 9) ((start + p * stride) % 9) v) → PlacesDone n l l₂ own counter start stride v
+          pub place-settled : {l₂ : List ℕ} → r ≡ 1 → Struck l₁ l₂ (SetHit ((start + p * stride) / 9) ((start + p * stride) % 9) v) →
+              PlacesDone n l l₂ own counter start stride v
           place-settled o s =
               record {
                 moved = fell-moved (fell-struck (places-lower .from) fell-one s) (omega arith) (omega arith);
-                steps = step lowered (step (place-reason (a .ready) (a .counted) t fell-one g k s (omega (arith, fell-one .here, e .0, places-lower .positive))) done);
+                steps = step lowered (step (place-reason (a .ready) (a .counted) t fell-one g k s
+                    (omega (arith, fell-one .here, e .0, places-lower .positive))) done);
                 places = λ ℓ i h b. place-set (a .ready) b t fell-one g k s;
               }

@@ -16,8 +16,8 @@ use Rattle.set_cell.specs.SetLaws.{set-table}
 use Rattle.counters.specs.Lines.{cellOf, cell-is}
 
 -- The state's table is t.
-abbrev pub TableIs : List ℕ → Table → Type 0
-TableIs l t = (r c v : ℕ) → r < 9 → c < 9 → v < 16 → tableIn l r c v ≡ t r c v
+pub record TableIs (l : List ℕ) (t : Table) : Type 0 where
+  pub is : (r c v : ℕ) → r < 9 → c < 9 → v < 16 → tableIn l r c v ≡ t r c v
 
 -- What led from one state to the next.
 pub data Reason (n : ℕ) (l l′ : List ℕ) : Type 0 where
@@ -50,12 +50,15 @@ steps-both (step r a) b = step r (steps-both a b)
 pub still-lower : {n p : ℕ} {l l′ : List ℕ} → Sized l → 973 ≤ p → l′ ≡ set l p (getD l p 0 - 1) → Reason n l l′
 unfolding tableIn
 still-lower {p = p} {l = l} s h e =
-    still (λ r c v a b d. rw e (ap (λ (x : ℕ). eqb x 1) (set-cand l p (getD l p 0 - 1) s h (r * 9 + c) v)))
+    still (record { is = λ r c v a b d. rw e (ap (λ (x : ℕ). eqb x 1) (set-cand l p (getD l p 0 - 1) s h (r * 9 + c) v)) })
 
 -- a place of a line is set
 pub taken-at : {l l′ : List ℕ} (ℓ : Line) (i x v : ℕ) → index ℓ < 9 → i < 9 → x ≡ cellOf ℓ i → Struck l l′ (SetHit (x / 9) (x % 9) v) →
     TableIs l′ (taken (tableIn l) (rowOf ℓ i) (columnOf ℓ i) v)
-taken-at {l} {l′} ℓ i x v h k e s r c w hr hc hw =
+taken-at {l} {l′} ℓ i x v h k e s =
     let q = cell-is ℓ i h k in
-    set-table (x / 9) (x % 9) v s r c w hr hc hw
-    ∙ ap₂ (λ y z. taken (tableIn l) y z v r c w) (ap (λ y. y / 9) e ∙ q .0) (ap (λ y. y % 9) e ∙ q .1)
+    record {
+      is = λ r c w hr hc hw.
+          set-table (x / 9) (x % 9) v s r c w hr hc hw
+          ∙ ap₂ (λ y z. taken (tableIn l) y z v r c w) (ap (λ y. y / 9) e ∙ q .0) (ap (λ y. y % 9) e ∙ q .1);
+    }

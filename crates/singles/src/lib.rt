@@ -27,7 +27,7 @@ fn update_half(st: &mut [u16], n: usize, own: bool, counter: usize, cell: usize,
     }
 }
 
-// Both halves of the cell.
+// A strike of v in the cell of row r and column c: the counters of both halves of the cell.
 pub fn update_singleton(st: &mut [u16], n: usize, r: usize, c: usize, v: usize)
     requires { ⌜ SingletonAsk n (now st) r c v ⌝ }
     ensures { λ _. ⌜ SingletonDone n (now (st .entry)) (now (st .exit)) r c v ⌝ }
@@ -76,7 +76,7 @@ fn update_places(
     }
 }
 
-// Both lines of the cell.
+// The same strike: the counters of v's places in both lines of the cell.
 pub fn update_hidden_singles(st: &mut [u16], n: usize, r: usize, c: usize, v: usize)
     requires { ⌜ HiddenAsk n (now st) r c v ⌝ }
     ensures { λ _. ⌜ HiddenDone n (now (st .entry)) (now (st .exit)) r c v ⌝ }
@@ -116,7 +116,7 @@ fn update_blacks(st: &mut [u16], n: usize, own: bool, counter: usize, cell: usiz
     }
 }
 
-// Both kinds of blacks of the cell.
+// The same strike: the counters of both kinds of blacks of the cell.
 pub fn update_black_consistency(st: &mut [u16], n: usize, r: usize, c: usize, v: usize)
     requires { ⌜ ConsistencyAsk n (now st) r c v ⌝ }
     ensures { λ _. ⌜ ConsistencyDone n (now (st .entry)) (now (st .exit)) r c v ⌝ }

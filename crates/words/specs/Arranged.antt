@@ -5,7 +5,7 @@ use mathlib.Core.Bool.{Bool, true, false, _&&_, _||_, cond, true≢false}
 use mathlib.Core.List.{List, [], _∷_, List·Memᴰ, List·Memᴰ·head, List·Memᴰ·tail}
 use native.Mathlib.Omega.{arith}
 use native.Mathlib.Decide.{decLt, decLe, ℕ-discrete}
-use lib.Dec.{eqb, ltb, leb}
+use lib.Dec.{eqb, ltb}
 use lib.ListN.{length, getD}
 use borrow.Author.Tests.{lt-ltb, le-ltb, le-leb, lt-leb, eq-eqb, ne-eqb, eqb-true}
 use Rattle.tally.specs.Tally.{span, any, keep}
@@ -50,7 +50,8 @@ unfolding any keep span
 any-in q a zero v h l = absurd (omega arith)
 any-in q a (suc k) v h l = go (ℕ-discrete v a) (q a) refl (λ n. any-in q (suc a) k v (omega arith) (omega arith))
   where
-    go : Dec (v ≡ a) → (b : Bool) → q a ≡ b → ((v ≡ a → ⊥) → any (eqb v) (keep q (span (suc a) k)) ≡ q v) → any (eqb v) (cond b (a ∷ keep q (span (suc a) k)) (keep q (span (suc a) k))) ≡ q v
+    go : Dec (v ≡ a) → (b : Bool) → q a ≡ b → ((v ≡ a → ⊥) → any (eqb v) (keep q (span (suc a) k)) ≡ q v) →
+        any (eqb v) (cond b (a ∷ keep q (span (suc a) k)) (keep q (span (suc a) k))) ≡ q v
     go (yes e) true f ih = rw (eq-eqb v a e) (sym f ∙ ap q (sym e))
     go (yes e) false f ih = any-below q (suc a) k v (omega arith) ∙ sym f ∙ ap q (sym e)
     go (no e) true f ih = rw (ne-eqb v a e) (ih e)
@@ -95,7 +96,8 @@ pub allows-narrow : (n k id j v : ℕ) → k ≤ 10 → allows k (arrangementOf 
 unfolding allows arrangementOf
 allows-narrow n k id j v h t = go (decLt v 16)
   where
-    ends : (b c : Bool) → 16 ≤ v → cond (eqb j 0) (eqb v (cond b k (suc k))) (cond (eqb j (length (digitsOf (maskIn (id / 9))) + 1)) (eqb v (cond c (suc k) k)) (any (eqb v) (digitsOf (maskIn (id / 9))))) ≡ false
+    ends : (b c : Bool) → 16 ≤ v → cond (eqb j 0) (eqb v (cond b k (suc k)))
+        (cond (eqb j (length (digitsOf (maskIn (id / 9))) + 1)) (eqb v (cond c (suc k) k)) (any (eqb v) (digitsOf (maskIn (id / 9))))) ≡ false
     ends b c l = rw (black b, back c, digits-past (maskIn (id / 9)) v (omega arith)) (none (eqb j 0) (eqb j (length (digitsOf (maskIn (id / 9))) + 1)))
       where
         black : (b : Bool) → eqb v (cond b k (suc k)) ≡ false
@@ -113,7 +115,7 @@ allows-narrow n k id j v h t = go (decLt v 16)
 
     go : Dec (v < 16) → v < 16
     go (yes a) = a
-    go (no a) = absurd (true≢false (sym t ∙ ends (leb (id % 9 + (sizeIn (id / 9) + 2)) n) (leb (id % 9 + (sizeIn (id / 9) + 2)) n) (omega arith)))
+    go (no a) = absurd (true≢false (sym t ∙ ends (arrangementOf n id .isInside) (arrangementOf n id .isInside) (omega arith)))
 
 any-first : (l : List ℕ) → 0 < length l → any (eqb (getD l 0 0)) l ≡ true
 unfolding any
@@ -137,7 +139,8 @@ unfolding any span
 any-find q a zero t = absurd (true≢false (sym t))
 any-find q a (suc k) t = go (q a) refl t (λ u. any-find q (suc a) k u)
   where
-    go : (b : Bool) → q a ≡ b → (b || any q (span (suc a) k)) ≡ true → (any q (span (suc a) k) ≡ true → (x : ℕ) × ((suc a ≤ x) × (x < suc a + k)) × (q x ≡ true)) →
+    go : (b : Bool) → q a ≡ b → (b || any q (span (suc a) k)) ≡ true →
+        (any q (span (suc a) k) ≡ true → (x : ℕ) × ((suc a ≤ x) × (x < suc a + k)) × (q x ≡ true)) →
         (x : ℕ) × ((a ≤ x) × (x < a + suc k)) × (q x ≡ true)
     go true e u ih = (a, (omega arith, omega arith), e)
     go false e u ih = let r = ih u in (r .0, (omega (arith, r .1 .0), omega (arith, r .1 .1)), r .2)
@@ -189,7 +192,8 @@ module _ (n id : ℕ) (z : Size n) (y : Known n id) where
   digit-same d = refl
 
   -- what a cell of the arrangement may have is what the word's pattern has there
-  pub pattern-allows : (k j v : ℕ) → 8 ≤ k → j < sizeIn (id / 9) + 2 → pattern k (wordOf n id) (place n (arrangementOf n id) j) v ≡ allows k (arrangementOf n id) j v
+  pub pattern-allows : (k j v : ℕ) → 8 ≤ k → j < sizeIn (id / 9) + 2 → pattern k (wordOf n id) (place n (arrangementOf n id) j) v
+      ≡ allows k (arrangementOf n id) j v
   unfolding allows
   pattern-allows k j v h l = go (ℕ-discrete j 0) (ℕ-discrete j (sizeIn (id / 9) + 1)) (decLt v 8)
     where
@@ -200,31 +204,48 @@ module _ (n id : ℕ) (z : Size n) (y : Known n id) where
       fits = known-fits n id z y
 
       at-from : j ≡ 0 → place n (arrangementOf n id) j ≡ fromOf (wordOf n id)
-      at-from e = let s = known-shaped n id z y in steps-same n (fromOf (wordOf n id)) _ _ (s .from-in) (place-in j (omega (arith, fits))) (s .from-in) (place-steps j (omega (arith, fits)) ∙ e ∙ sym (steps-none n (fromOf (wordOf n id))))
+      at-from e = let s = known-shaped n id z y in steps-same n (fromOf (wordOf n id)) _ _ (s .from-in) (place-in j (omega (arith, fits))) (s .from-in)
+          (place-steps j (omega (arith, fits)) ∙ e ∙ sym (steps-none n (fromOf (wordOf n id))))
 
       at-to : j ≡ sizeIn (id / 9) + 1 → place n (arrangementOf n id) j ≡ toOf (wordOf n id)
-      at-to e = let s = known-shaped n id z y in steps-same n (fromOf (wordOf n id)) _ _ (s .from-in) (place-in j (omega (arith, fits))) (s .to-in) (place-steps j (omega (arith, fits)) ∙ e ∙ sym (known-steps n id z y))
+      at-to e = let s = known-shaped n id z y in steps-same n (fromOf (wordOf n id)) _ _ (s .from-in) (place-in j (omega (arith, fits))) (s .to-in)
+          (place-steps j (omega (arith, fits)) ∙ e ∙ sym (known-steps n id z y))
 
       go : Dec (j ≡ 0) → Dec (j ≡ sizeIn (id / 9) + 1) → Dec (v < 8) →
           pattern k (wordOf n id) (place n (arrangementOf n id) j) v
-          ≡ cond (eqb j 0) (eqb v (cond (arrangementOf n id .isInside) k (suc k))) (cond (eqb j (length (arrangementOf n id .digitSet) + 1)) (eqb v (cond (arrangementOf n id .isInside) (suc k) k)) (any (eqb v) (arrangementOf n id .digitSet)))
+          ≡ cond (eqb j 0) (eqb v (cond (arrangementOf n id .isInside) k (suc k)))
+          (cond (eqb j (length (arrangementOf n id .digitSet) + 1)) (eqb v (cond (arrangementOf n id .isInside) (suc k) k))
+          (any (eqb v) (arrangementOf n id .digitSet)))
       go (yes e) _ _ =
           rw (at-from e, eq-eqb j 0 e, inside-same, ← f .head-is k) (pattern-head n k (wordOf n id) (known-shaped n id z y) h v)
       go (no d) (yes e) _ =
-          rw (at-to e, ne-eqb j 0 d, known-length, eq-eqb j (sizeIn (id / 9) + 1) e, inside-same, ← f .last-is k) (pattern-last n k (wordOf n id) (known-shaped n id z y) h v)
+          rw (at-to e, ne-eqb j 0 d, known-length, eq-eqb j (sizeIn (id / 9) + 1) e, inside-same, ← f .last-is k)
+          (pattern-last n k (wordOf n id) (known-shaped n id z y) h v)
       go (no d) (no e) (yes m) =
-          rw (ne-eqb j 0 d, known-length, ne-eqb j (sizeIn (id / 9) + 1) e, digit-same v, digits-any (maskIn (id / 9)) v (mask-even (id / 9) (known-subset n id z y)) m, ← f .set-is)
-          (pattern-inner n k (wordOf n id) (known-shaped n id z y) h _ (place-in j (omega (arith, fits))) (omega (arith, place-steps j (omega (arith, fits)))) (omega (arith, place-steps j (omega (arith, fits)), known-steps n id z y)) v m)
+          rw (
+            ne-eqb j 0 d,
+            known-length,
+            ne-eqb j (sizeIn (id / 9) + 1) e,
+            digit-same v,
+            digits-any (maskIn (id / 9)) v
+                (mask-even (id / 9) (known-subset n id z y)) m,
+            ← f .set-is,
+          )
+          (pattern-inner n k (wordOf n id) (known-shaped n id z y) h _ (place-in j (omega (arith, fits)))
+          (omega (arith, place-steps j (omega (arith, fits)))) (omega (arith, place-steps j (omega (arith, fits)), known-steps n id z y)) v m)
       go (no d) (no e) (no m) =
           rw (ne-eqb j 0 d, known-length, ne-eqb j (sizeIn (id / 9) + 1) e, digit-same v, digits-past (maskIn (id / 9)) v (omega arith))
-          (pattern-inner-black n k (wordOf n id) (known-shaped n id z y) h _ (place-in j (omega (arith, fits))) (omega (arith, place-steps j (omega (arith, fits)))) (omega (arith, place-steps j (omega (arith, fits)), known-steps n id z y)) v (omega arith))
+          (pattern-inner-black n k (wordOf n id) (known-shaped n id z y) h _ (place-in j (omega (arith, fits)))
+          (omega (arith, place-steps j (omega (arith, fits)))) (omega (arith, place-steps j (omega (arith, fits)), known-steps n id z y)) v (omega arith))
 
   -- the pattern has the value v at place p where the arrangement lays it there
   pub pattern-lays : (k p v : ℕ) → 8 ≤ k → p < n → pattern k (wordOf n id) p v ≡ lays n k p v (arrangementOf n id)
   unfolding lays
   pattern-lays k p v h hp =
       test-ext (pattern k (wordOf n id) p v) _
-      (λ t. any-yes test 0 (length (arrangementOf n id .digitSet) + 2) (steps n (fromOf (wordOf n id)) p) (omega arith) (in-reach t (decLt (sizeIn (id / 9) + 1) (steps n (fromOf (wordOf n id)) p))) (there t (decLt (sizeIn (id / 9) + 1) (steps n (fromOf (wordOf n id)) p))))
+      (λ t. any-yes test 0 (length (arrangementOf n id .digitSet) + 2) (steps n (fromOf (wordOf n id)) p) (omega arith)
+      (in-reach t (decLt (sizeIn (id / 9) + 1) (steps n (fromOf (wordOf n id)) p)))
+      (there t (decLt (sizeIn (id / 9) + 1) (steps n (fromOf (wordOf n id)) p))))
       (λ t. let r = any-find test 0 (length (arrangementOf n id .digitSet) + 2) t in back (r .0) (r .1 .1) (r .2))
     where
       test : ℕ → Bool
@@ -233,7 +254,8 @@ module _ (n id : ℕ) (z : Size n) (y : Known n id) where
       beyond : sizeIn (id / 9) + 1 < steps n (fromOf (wordOf n id)) p → pattern k (wordOf n id) p v ≡ false
       beyond l = pattern-beyond n k (wordOf n id) (known-shaped n id z y) h p v hp (omega (arith, known-steps n id z y))
 
-      in-reach : pattern k (wordOf n id) p v ≡ true → Dec (sizeIn (id / 9) + 1 < steps n (fromOf (wordOf n id)) p) → steps n (fromOf (wordOf n id)) p < 0 + (length (arrangementOf n id .digitSet) + 2)
+      in-reach : pattern k (wordOf n id) p v ≡ true → Dec (sizeIn (id / 9) + 1 < steps n (fromOf (wordOf n id)) p) →
+          steps n (fromOf (wordOf n id)) p < 0 + (length (arrangementOf n id .digitSet) + 2)
       in-reach t (yes l) = absurd (true≢false (sym t ∙ beyond l))
       in-reach t (no l) = omega (arith, known-length)
 
@@ -262,13 +284,16 @@ module _ (n id : ℕ) (z : Size n) (y : Known n id) where
       backs true = omega arith
       backs false = omega arith
 
-      low : Dec (8 ≤ getD (digitsOf (maskIn (id / 9))) 0 0) → any (eqb (getD (digitsOf (maskIn (id / 9))) 0 0)) (digitsOf (maskIn (id / 9))) ≡ true → getD (digitsOf (maskIn (id / 9))) 0 0 < 16
+      low : Dec (8 ≤ getD (digitsOf (maskIn (id / 9))) 0 0) → any (eqb (getD (digitsOf (maskIn (id / 9))) 0 0)) (digitsOf (maskIn (id / 9))) ≡ true →
+          getD (digitsOf (maskIn (id / 9))) 0 0 < 16
       low (yes m) t = absurd (true≢false (sym t ∙ digits-past (maskIn (id / 9)) _ m))
       low (no m) t = omega arith
 
       go : Dec (j ≡ 0) → Dec (j ≡ sizeIn (id / 9) + 1) →
           (v : ℕ) × (v < 16) ×
-          (cond (eqb j 0) (eqb v (cond (arrangementOf n id .isInside) k (suc k))) (cond (eqb j (length (arrangementOf n id .digitSet) + 1)) (eqb v (cond (arrangementOf n id .isInside) (suc k) k)) (any (eqb v) (arrangementOf n id .digitSet))) ≡ true)
+          (cond (eqb j 0) (eqb v (cond (arrangementOf n id .isInside) k (suc k)))
+          (cond (eqb j (length (arrangementOf n id .digitSet) + 1)) (eqb v (cond (arrangementOf n id .isInside) (suc k) k))
+          (any (eqb v) (arrangementOf n id .digitSet))) ≡ true)
       go (yes e) _ =
           let v = cond (arrangementOf n id .isInside) k (suc k) in
           (v, ends (arrangementOf n id .isInside), rw (eq-eqb j 0 e) (eq-eqb v v refl))
@@ -276,18 +301,24 @@ module _ (n id : ℕ) (z : Size n) (y : Known n id) where
           let v = cond (arrangementOf n id .isInside) (suc k) k in
           (v, backs (arrangementOf n id .isInside), rw (ne-eqb j 0 d, known-length, eq-eqb j (sizeIn (id / 9) + 1) e) (eq-eqb v v refl))
       go (no d) (no e) =
-          let t = any-first (digitsOf (maskIn (id / 9))) (omega (arith, subset-size (id / 9) (known-subset n id z y))) in
-          (getD (digitsOf (maskIn (id / 9))) 0 0, low (decLe 8 _) t, rw (ne-eqb j 0 d, known-length, ne-eqb j (sizeIn (id / 9) + 1) e, digit-same (getD (digitsOf (maskIn (id / 9))) 0 0)) t)
+          let t = any-first (digitsOf (maskIn (id / 9))) (omega (arith, subset-size (id / 9) (known-subset n id z y))) in (
+            getD (digitsOf (maskIn (id / 9))) 0 0,
+            low (decLe 8 _) t,
+            rw
+                (ne-eqb j 0 d, known-length, ne-eqb j (sizeIn (id / 9) + 1) e, digit-same (getD (digitsOf (maskIn (id / 9))) 0 0)) t,
+          )
 
   -- all places of the word are the cells of the arrangement
   pub covered-place : (j : ℕ) → j < sizeIn (id / 9) + 2 → bit (place n (arrangementOf n id) j) (coveredOf (wordOf n id)) ≡ 1
   covered-place j l =
       let fits = known-fits n id z y in
-      covered-on n 8 (wordOf n id) (known-shaped n id z y) (omega arith) _ (place-in j (omega arith)) (omega (arith, place-steps j (omega arith), known-steps n id z y))
+      covered-on n 8 (wordOf n id) (known-shaped n id z y) (omega arith) _ (place-in j (omega arith))
+      (omega (arith, place-steps j (omega arith), known-steps n id z y))
 
   pub place-covered : (p : ℕ) → p < n → bit p (coveredOf (wordOf n id)) ≡ 1 → (j : ℕ) × (j < sizeIn (id / 9) + 2) × (place n (arrangementOf n id) j ≡ p)
   place-covered p hp e = go (decLt (steps n (fromOf (wordOf n id)) (toOf (wordOf n id))) (steps n (fromOf (wordOf n id)) p))
     where
-      go : Dec (steps n (fromOf (wordOf n id)) (toOf (wordOf n id)) < steps n (fromOf (wordOf n id)) p) → (j : ℕ) × (j < sizeIn (id / 9) + 2) × (place n (arrangementOf n id) j ≡ p)
+      go : Dec (steps n (fromOf (wordOf n id)) (toOf (wordOf n id)) < steps n (fromOf (wordOf n id)) p) → (j : ℕ) × (j < sizeIn (id / 9) + 2)
+          × (place n (arrangementOf n id) j ≡ p)
       go (yes l) = absurd (omega (arith, covered-off n 8 (wordOf n id) (known-shaped n id z y) (omega arith) p hp l))
       go (no l) = (steps n (fromOf (wordOf n id)) p, omega (arith, known-steps n id z y), steps-place p hp)

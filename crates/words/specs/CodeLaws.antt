@@ -68,13 +68,15 @@ module _ (n len start : ℕ) (z : Size n) (l : len + 2 ≤ n) (h : start < n) wh
   line-positive = rw (shl-one n (omega (arith, z .high))) (pow-pos n)
 
   pub inner-code :
-      (1 * 2 ^ len % 4294967296 - 1) * 2 ^ (start + 1) % 4294967296 % (1 * 2 ^ n % 4294967296) + (1 * 2 ^ len % 4294967296 - 1) * 2 ^ (start + 1) % 4294967296 / 2 ^ n
+      (1 * 2 ^ len % 4294967296 - 1) * 2 ^ (start + 1) % 4294967296 % (1 * 2 ^ n % 4294967296) + (1 * 2 ^ len % 4294967296 - 1) * 2 ^ (start + 1) %
+      4294967296 / 2 ^ n
       ≡ innerPlaces n len start
   unfolding innerPlaces
   inner-code = rw (run-fits, shl-one n (omega (arith, z .high)))
 
   pub inner-fits :
-      (1 * 2 ^ len % 4294967296 - 1) * 2 ^ (start + 1) % 4294967296 % (1 * 2 ^ n % 4294967296) + (1 * 2 ^ len % 4294967296 - 1) * 2 ^ (start + 1) % 4294967296 / 2 ^ n < 512
+      (1 * 2 ^ len % 4294967296 - 1) * 2 ^ (start + 1) % 4294967296 % (1 * 2 ^ n % 4294967296) + (1 * 2 ^ len % 4294967296 - 1) * 2 ^ (start + 1) %
+      4294967296 / 2 ^ n < 512
   inner-fits = rw inner-code (inner-small n len start z l h)
 
 -- ---- a word

@@ -36,7 +36,8 @@ module _ {n s x : ℕ} {ws₀ : List ℕ} (a : FillAsk n s x ws₀) where
   pub fill-room : x / 8192 + 2 ≤ n
   fill-room = rw (a .code) (subset-fits s (a .among) n (a .size) (rw (a .code) at (a .digits)))
 
-  pub filling-next : (k len w : ℕ) (ws : List ℕ) → len ≡ x / 8192 → k < n → w ≡ wordFrom n (x % 256) len k → Filling n s k ws₀ ws → Filling n s (k + 1) ws₀ (set ws (s * 9 + k) w)
+  pub filling-next : (k len w : ℕ) (ws : List ℕ) → len ≡ x / 8192 → k < n → w ≡ wordFrom n (x % 256) len k → Filling n s k ws₀ ws →
+      Filling n s (k + 1) ws₀ (set ws (s * 9 + k) w)
   unfolding wordOf
   filling-next k len w ws f h e g =
       record {
@@ -52,7 +53,8 @@ module _ {n s x : ℕ} {ws₀ : List ℕ} (a : FillAsk n s x ws₀) where
           let q : (s * 9 + k) % 9 ≡ k = omega (arith, a .size .high) in
           rw (p, q, ← a .code, ← f) e
 
-      one : (i : ℕ) → i < k + 1 → Dec (i ≡ k) → getD (set ws (s * 9 + k) w) (s * 9 + i) 0 ≡ wordFrom n (maskIn ((s * 9 + i) / 9)) (sizeIn ((s * 9 + i) / 9)) ((s * 9 + i) % 9)
+      one : (i : ℕ) → i < k + 1 → Dec (i ≡ k) → getD (set ws (s * 9 + k) w) (s * 9 + i) 0
+          ≡ wordFrom n (maskIn ((s * 9 + i) / 9)) (sizeIn ((s * 9 + i) / 9)) ((s * 9 + i) % 9)
       one i l (yes q) = rw q (getD-set-same ws (s * 9 + k) w 0 (omega (arith, g .long, a .among, a .size .high)) ∙ there)
       one i l (no q) = getD-set-other ws (s * 9 + k) (s * 9 + i) w 0 (λ r. omega arith) ∙ g .each i (omega arith)
 

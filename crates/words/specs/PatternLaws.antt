@@ -273,7 +273,14 @@ module _ (n k w : ℕ) (s : Shaped n w) (h : 8 ≤ k) where
   pub covered-off : (p : ℕ) → p < n → steps n (fromOf w) (toOf w) < steps n (fromOf w) p → bit p (coveredOf w) ≡ 0
   covered-off p hp l =
       let o = off-ends p (λ e. low (sym e)) (λ e. omega (arith, ap (λ q. steps n (fromOf w) q) e)) in
-      omega (arith, covered-bit p, s .beyond p hp (inr (omega arith)), bit-pow-other p (firstOf w) (λ e. o .0 (sym e)), bit-pow-other p (secondOf w) (λ e. o .1 (sym e)))
+      omega (
+        arith,
+        covered-bit p,
+        s .beyond p hp (inr (omega arith)),
+        bit-pow-other p (firstOf w) (λ e. o .0 (sym e)),
+        bit-pow-other p (secondOf w)
+            (λ e. o .1 (sym e)),
+      )
     where
       low : fromOf w ≡ p → ⊥
       low e = omega (arith, steps-none n (fromOf w), ap (λ q. steps n (fromOf w) q) e)

@@ -37,7 +37,8 @@ fit-tests = refl
 ring-test : ℕ → ℕ → ℕ → ℕ → Bool
 ring-test n len start p = eqb (bit p (innerPlaces n len start)) (cond (ltb p n && (ltb 0 (steps n start p) && leb (steps n start p) len)) 1 0)
 
-ring-tests : all (λ n. all (λ len. all (λ start. all (ring-test n len start) (span 0 9) && ltb (innerPlaces n len start) 512) (span 0 n)) (span 0 (n - 1))) (span 2 8) ≡ true
+ring-tests : all (λ n. all (λ len. all (λ start. all (ring-test n len start) (span 0 9) && ltb (innerPlaces n len start) 512) (span 0 n)) (span 0 (n - 1)))
+    (span 2 8) ≡ true
 unfolding ring-test innerPlaces steps span all bit
 ring-tests = refl
 
@@ -72,8 +73,10 @@ module _ (s : ℕ) (h : s < 128) where
 module _ (n len start : ℕ) (z : Size n) (l : len + 2 ≤ n) (h : start < n) where
   rings : (all (ring-test n len start) (span 0 9) && ltb (innerPlaces n len start) 512) ≡ true
   rings =
-      let t = at (λ n. all (λ len. all (λ start. all (ring-test n len start) (span 0 9) && ltb (innerPlaces n len start) 512) (span 0 n)) (span 0 (n - 1))) 2 8 n (z .low) (omega (arith, z .high)) ring-tests in
-      let u = at (λ len. all (λ start. all (ring-test n len start) (span 0 9) && ltb (innerPlaces n len start) 512) (span 0 n)) 0 (n - 1) len (omega arith) (omega arith) t in
+      let t = at (λ n. all (λ len. all (λ start. all (ring-test n len start) (span 0 9) && ltb (innerPlaces n len start) 512) (span 0 n)) (span 0 (n - 1)))
+      2 8 n (z .low) (omega (arith, z .high)) ring-tests in
+      let u = at (λ len. all (λ start. all (ring-test n len start) (span 0 9) && ltb (innerPlaces n len start) 512) (span 0 n)) 0 (n - 1) len (omega arith)
+      (omega arith) t in
       at (λ start. all (ring-test n len start) (span 0 9) && ltb (innerPlaces n len start) 512) 0 n start (omega arith) (omega arith) u
 
   pub inner-small : innerPlaces n len start < 512

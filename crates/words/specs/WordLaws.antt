@@ -9,7 +9,8 @@ use lib.Dec.{ltb}
 use borrow.Author.Tests.{lt-ltb, le-ltb, eq-eqb, ne-eqb}
 use Rattle.bits.specs.Bit.{bit}
 use Rattle.checks.specs.SizeLaws.{Size}
-use Rattle.words.specs.Word.{maskIn, sizeIn, Known, setOf, innerOf, firstOf, secondOf, outsideOf, innerPlaces, wordFrom, wordOf, fromOf, toOf, headOf, lastOf, steps, Shaped}
+use Rattle.words.specs.Word.{maskIn, sizeIn, Known, setOf, innerOf, firstOf, secondOf, outsideOf, innerPlaces, wordFrom, wordOf}
+use Rattle.words.specs.Word.{fromOf, toOf, headOf, lastOf, steps, Shaped}
 use Rattle.words.specs.WordFacts.{subset-fits, inner-small, inner-between, inner-start, inner-far, inner-past}
 use Rattle.words.specs.StepLaws.{steps-on, steps-back}
 
@@ -126,10 +127,13 @@ module _ (n id : ℕ) (z : Size n) (y : Known n id) where
         from-in = rw (f .from-is) (y .starts);
         to-in = rw (f .to-is) (ending-in n (sizeIn (id / 9)) (id % 9) known-fits (y .starts));
         apart = omega (arith, known-steps);
-        between = λ p hp a b. ap (bit p) (f .inner-is) ∙ inner-between n (sizeIn (id / 9)) (id % 9) z known-fits (y .starts) p hp (near p a) (omega (arith, known-steps, ap (λ a. steps n a p) (f .from-is)));
+        between = λ p hp a b. ap (bit p) (f .inner-is) ∙ inner-between n (sizeIn (id / 9)) (id % 9) z known-fits (y .starts) p hp (near p a)
+            (omega (arith, known-steps, ap (λ a. steps n a p) (f .from-is)));
         beyond = λ p hp. ⊎-elim
-            (λ a. ap (bit p) (f .inner-is) ∙ inner-start n (sizeIn (id / 9)) (id % 9) z known-fits (y .starts) p hp (sym (ap (λ a. steps n a p) (f .from-is)) ∙ a))
-            (λ a. ap (bit p) (f .inner-is) ∙ inner-far n (sizeIn (id / 9)) (id % 9) z known-fits (y .starts) p hp (omega (arith, known-steps, ap (λ a. steps n a p) (f .from-is))));
+            (λ a. ap (bit p) (f .inner-is) ∙ inner-start n (sizeIn (id / 9)) (id % 9) z known-fits (y .starts) p hp
+            (sym (ap (λ a. steps n a p) (f .from-is)) ∙ a))
+            (λ a. ap (bit p) (f .inner-is) ∙ inner-far n (sizeIn (id / 9)) (id % 9) z known-fits (y .starts) p hp
+            (omega (arith, known-steps, ap (λ a. steps n a p) (f .from-is))));
         past = λ p a b. ap (bit p) (f .inner-is) ∙ inner-past n (sizeIn (id / 9)) (id % 9) z known-fits (y .starts) p a b;
       }
     where

@@ -33,7 +33,9 @@ loop-less : tie.Need-loop-less Inv-loop μ-loop
 loop-less c = dropping-less (c .before .before .before .before .before .loop .inv) (c .before .before .before .before .loop-test .taken)
 
 loop-again : tie.Need-loop-again Inv-loop μ-loop
-loop-again c = dropping-next (c .before .before .before .before .before .loop .inv) (c .before .before .before .before .loop-test .taken) (c .before .before .drop-support .ensures)
+loop-again c =
+    let b₄ = c .before .before .before .before in
+    dropping-next (b₄ .before .loop .inv) (b₄ .loop-test .taken) (c .before .before .drop-support .ensures)
 
 same-length : tie.Need-same-length Inv-loop μ-loop
 same-length c = search needs

@@ -35,31 +35,58 @@ mul-drop-digits : tie.Need-mul-drop-digits Inv-loop μ-loop
 mul-drop-digits c = omega (arith, c .before .before .before .before .before .before .before .before .pre .placed .within)
 
 add-drop-digits : tie.Need-add-drop-digits Inv-loop μ-loop
-add-drop-digits c = omega (arith, c .before .before .before .before .before .before .before .before .pre .placed .within, c .before .before .loop .inv .within, c .before .before .before .before .before .before .before .before .pre .size .high)
+add-drop-digits c =
+    let b₄ = c .before .before .before .before in
+    let b₈ = b₄ .before .before .before .before in
+    omega (arith, b₈ .pre .placed .within, c .before .before .loop .inv .within, b₈ .pre .size .high)
 
 mul-drop-digits-2 : tie.Need-mul-drop-digits-2 Inv-loop μ-loop
-mul-drop-digits-2 c = omega (arith, placed-small (c .before .before .before .before .before .before .before .before .pre .placed) (c .before .before .loop .p) (omega (arith, c .before .before .loop .inv .within, c .before .before .before .before .before .before .before .before .pre .size .high)))
+mul-drop-digits-2 c =
+    let b₄ = c .before .before .before .before in
+    let b₈ = b₄ .before .before .before .before in
+    omega (arith, placed-small (b₈ .pre .placed) (c .before .before .loop .p) (omega (arith, c .before .before .loop .inv .within, b₈ .pre .size .high)))
 
 add-drop-digits-2 : tie.Need-add-drop-digits-2 Inv-loop μ-loop
-add-drop-digits-2 c = omega (arith, placed-small (c .before .before .before .before .before .before .before .before .pre .placed) (c .before .before .loop .p) (omega (arith, c .before .before .loop .inv .within, c .before .before .before .before .before .before .before .before .pre .size .high)))
+add-drop-digits-2 c =
+    let b₄ = c .before .before .before .before in
+    let b₈ = b₄ .before .before .before .before in
+    omega (arith, placed-small (b₈ .pre .placed) (c .before .before .loop .p) (omega (arith, c .before .before .loop .inv .within, b₈ .pre .size .high)))
 
 drop-digits-requires : tie.Need-drop-digits-requires Inv-loop μ-loop
-drop-digits-requires c κs = walking-ask (c .before .before .before .before .before .before .before .before .pre) (c .before .before .loop .inv) _ (c .before .before .before .before .before .to-of .ensures) (c .before .loop-test .taken) _ _ (c .before .before .before .before .before .before .set-of .ensures) refl
+drop-digits-requires c κs =
+    let b₄ = c .before .before .before .before in
+    let b₈ = b₄ .before .before .before .before in
+    walking-ask (b₈ .pre) (c .before .before .loop .inv) _ (b₄ .before .to-of .ensures) (c .before .loop-test .taken) _ _
+    (b₄ .before .before .set-of .ensures) refl
 
 next-place-requires-2 : tie.Need-next-place-requires-2 Inv-loop μ-loop
-next-place-requires-2 c κs = (c .before .before .before .before .before .loop .inv .within, c .before .before .before .before .before .before .before .before .before .before .before .pre .size .high)
+next-place-requires-2 c κs =
+    let b₄ = c .before .before .before .before in
+    let b₈ = b₄ .before .before .before .before in
+    (b₄ .before .loop .inv .within, b₈ .before .before .before .pre .size .high)
 
 loop-less : tie.Need-loop-less Inv-loop μ-loop
-loop-less c = walking-less (c .before .before .before .before .before .before .before .before .before .before .before .before .pre) (c .before .before .before .before .before .before .loop .inv) _ (c .before .before .before .before .before .before .before .before .before .to-of .ensures) (c .before .before .before .before .before .loop-test .taken) _ (c .next-place2 .ensures)
+loop-less c =
+    let b₄ = c .before .before .before .before in
+    let b₈ = b₄ .before .before .before .before in
+    let b₁₂ = b₈ .before .before .before .before in
+    walking-less (b₁₂ .pre) (b₄ .before .before .loop .inv) _ (b₈ .before .to-of .ensures) (b₄ .before .loop-test .taken) _ (c .next-place2 .ensures)
 
 loop-again : tie.Need-loop-again Inv-loop μ-loop
-loop-again c = walking-next (c .before .before .before .before .before .before .before .before .before .before .before .before .pre) (c .before .before .before .before .before .before .loop .inv) _ (c .before .before .before .before .before .before .before .before .before .to-of .ensures) (c .before .before .before .before .before .loop-test .taken) _ _ (c .before .before .before .before .before .before .before .before .before .before .set-of .ensures) (c .next-place2 .ensures) (c .before .before .before .drop-digits .ensures)
+loop-again c =
+    let b₄ = c .before .before .before .before in
+    let b₈ = b₄ .before .before .before .before in
+    let b₁₂ = b₈ .before .before .before .before in
+    walking-next (b₁₂ .pre) (b₄ .before .before .loop .inv) _ (b₈ .before .to-of .ensures) (b₄ .before .loop-test .taken) _ _
+    (b₈ .before .before .set-of .ensures) (c .next-place2 .ensures) (c .before .before .before .drop-digits .ensures)
 
 same-length : tie.Need-same-length Inv-loop μ-loop
 same-length c = search needs
 
 returns : tie.Need-returns Inv-loop μ-loop
-returns c = walking-end (c .before .before .before .before .before .before .before .pre) (c .before .loop .inv) _ (c .before .before .before .before .to-of .ensures) (c .loop-test .left)
+returns c =
+    let b₄ = c .before .before .before .before in
+    walking-end (b₄ .before .before .before .pre) (c .before .loop .inv) _ (b₄ .to-of .ensures) (c .loop-test .left)
 
 pub drop-inner-spec : {M : Type 1} → statement M
 drop-inner-spec =

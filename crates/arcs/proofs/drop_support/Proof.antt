@@ -23,7 +23,10 @@ same-length : tie.Need-same-length
 same-length c = search needs
 
 returns : tie.Need-returns
-returns c = drop-strikes (c .before .before .before .before .before .before .before .before .before .before .pre) (c .before .before .before .before .before .before .before .lower .ensures) (c .before .before .before .before .if1 .taken) (c .before .before .clear-value .ensures)
+returns c =
+    let b₄ = c .before .before .before .before in
+    let b₈ = b₄ .before .before .before .before in
+    drop-strikes (b₈ .before .before .pre) (b₄ .before .before .before .lower .ensures) (b₄ .if1 .taken) (c .before .before .clear-value .ensures)
 
 same-length-2 : tie.Need-same-length-2
 same-length-2 c = search needs

@@ -28,34 +28,67 @@ head-of-requires : tie.Need-head-of-requires
 head-of-requires c κs = kill-black (c .before .before .before .before .pre)
 
 drop-support-requires : tie.Need-drop-support-requires
-drop-support-requires c κs = kill-first (c .before .before .before .before .before .pre) _ _ _ (c .before .before .before .from-of .ensures) refl (c .head-of .ensures)
+drop-support-requires c κs =
+    let b₄ = c .before .before .before .before in
+    kill-first (b₄ .before .pre) _ _ _ (c .before .before .before .from-of .ensures) refl (c .head-of .ensures)
 
 drop-inner-requires : tie.Need-drop-inner-requires
-drop-inner-requires c κs = kill-inner (c .before .before .before .before .before .before .before .before .before .pre) _ _ (c .before .before .before .before .before .before .before .from-of .ensures) (c .before .before .before .drop-support .ensures)
+drop-inner-requires c κs =
+    let b₄ = c .before .before .before .before in
+    let b₈ = b₄ .before .before .before .before in
+    kill-inner (b₈ .before .pre) _ _ (b₄ .before .before .before .from-of .ensures) (c .before .before .before .drop-support .ensures)
 
 mul-drop-support-3 : tie.Need-mul-drop-support-3
-mul-drop-support-3 c = omega (arith, kill-to (c .before .before .before .before .before .before .before .before .before .before .before .before .before .pre) _ (c .before .before .before .before .before .before .before .before .before .before .to-of .ensures))
+mul-drop-support-3 c =
+    let b₄ = c .before .before .before .before in
+    let b₈ = b₄ .before .before .before .before in
+    let b₁₂ = b₈ .before .before .before .before in
+    omega (arith, kill-to (b₁₂ .before .pre) _ (b₈ .before .before .to-of .ensures))
 
 add-drop-support-3 : tie.Need-add-drop-support-3
-add-drop-support-3 c = omega (arith, kill-to (c .before .before .before .before .before .before .before .before .before .before .before .before .before .pre) _ (c .before .before .before .before .before .before .before .before .before .before .to-of .ensures))
+add-drop-support-3 c =
+    let b₄ = c .before .before .before .before in
+    let b₈ = b₄ .before .before .before .before in
+    let b₁₂ = b₈ .before .before .before .before in
+    omega (arith, kill-to (b₁₂ .before .pre) _ (b₈ .before .before .to-of .ensures))
 
 mul-drop-support-4 : tie.Need-mul-drop-support-4
-mul-drop-support-4 c = omega (arith, kill-to (c .before .before .before .before .before .before .before .before .before .before .before .before .before .pre) _ (c .before .before .before .before .before .before .before .before .before .before .to-of .ensures))
+mul-drop-support-4 c =
+    let b₄ = c .before .before .before .before in
+    let b₈ = b₄ .before .before .before .before in
+    let b₁₂ = b₈ .before .before .before .before in
+    omega (arith, kill-to (b₁₂ .before .pre) _ (b₈ .before .before .to-of .ensures))
 
 add-drop-support-4 : tie.Need-add-drop-support-4
-add-drop-support-4 c = omega (arith, kill-to (c .before .before .before .before .before .before .before .before .before .before .before .before .before .pre) _ (c .before .before .before .before .before .before .before .before .before .before .to-of .ensures))
+add-drop-support-4 c =
+    let b₄ = c .before .before .before .before in
+    let b₈ = b₄ .before .before .before .before in
+    let b₁₂ = b₈ .before .before .before .before in
+    omega (arith, kill-to (b₁₂ .before .pre) _ (b₈ .before .before .to-of .ensures))
 
 last-of-requires : tie.Need-last-of-requires
 last-of-requires c κs = kill-black (c .before .before .before .before .before .before .before .before .before .before .before .before .before .pre)
 
 drop-support-requires-2 : tie.Need-drop-support-requires-2
-drop-support-requires-2 c κs = kill-last (c .before .before .before .before .before .before .before .before .before .before .before .before .before .before .pre) _ _ (c .before .before .before .before .before .before .before .before .before .before .before .before .from-of .ensures) (c .before .before .before .before .before .before .before .before .drop-support .ensures) (c .before .before .before .before .drop-inner .ensures) _ _ _ (c .before .before .before .before .before .before .before .before .before .before .before .to-of .ensures) refl (c .last-of .ensures)
+drop-support-requires-2 c κs =
+    let b₄ = c .before .before .before .before in
+    let b₈ = b₄ .before .before .before .before in
+    let b₁₂ = b₈ .before .before .before .before in
+    kill-last (b₁₂ .before .before .pre) _ _ (b₁₂ .from-of .ensures) (b₈ .drop-support .ensures) (b₄ .drop-inner .ensures) _ _ _
+    (b₈ .before .before .before .to-of .ensures) refl (c .last-of .ensures)
 
 same-length : tie.Need-same-length
 same-length c = search needs
 
 returns : tie.Need-returns
-returns c = kill-end (c .before .before .before .before .before .before .before .before .before .before .before .before .before .before .before .before .before .pre) _ _ (c .before .before .before .before .before .before .before .before .before .before .before .before .before .before .before .from-of .ensures) (c .before .before .before .before .before .before .before .before .before .before .before .drop-support .ensures) (c .before .before .before .before .before .before .before .drop-inner .ensures) _ _ (c .before .before .before .before .before .before .before .before .before .before .before .before .before .before .to-of .ensures) (c .before .before .before .before .before .before .before .before .before .before .before .before .head-of .ensures) (c .before .before .before .last-of .ensures) (c .before .before .drop-support2 .ensures)
+returns c =
+    let b₄ = c .before .before .before .before in
+    let b₈ = b₄ .before .before .before .before in
+    let b₁₂ = b₈ .before .before .before .before in
+    let b₁₆ = b₁₂ .before .before .before .before in
+    kill-end (b₁₆ .before .pre) _ _ (b₁₂ .before .before .before .from-of .ensures) (b₈ .before .before .before .drop-support .ensures)
+    (b₄ .before .before .before .drop-inner .ensures) _ _ (b₁₂ .before .before .to-of .ensures) (b₁₂ .head-of .ensures)
+    (c .before .before .before .last-of .ensures) (c .before .before .drop-support2 .ensures)
 
 pub kill-spec : {M : Type 1} → statement M
 kill-spec =

@@ -33,7 +33,10 @@ loop-holds : tie.Need-loop-holds Inv-loop μ-loop
 loop-holds c = sweep-start (c .before .before .before .before .before .pre .0) _ (c .wide .ensures)
 
 word-at-requires : tie.Need-word-at-requires Inv-loop μ-loop
-word-at-requires c κs = sweep-read (c .before .before .before .before .before .before .before .before .pre .0) (c .before .before .loop .inv) (c .before .loop-test .taken)
+word-at-requires c κs =
+    let b₄ = c .before .before .before .before in
+    let b₈ = b₄ .before .before .before .before in
+    sweep-read (b₈ .pre .0) (c .before .before .loop .inv) (c .before .loop-test .taken)
 
 shr-if1 : tie.Need-shr-if1 Inv-loop μ-loop
 shr-if1 c = shift-small _ _ _ (c .before .before .before .before .before .before .black-shift .ensures)
@@ -55,7 +58,12 @@ loop-less : tie.Need-loop-less Inv-loop μ-loop
 loop-less c = search needs
 
 loop-again : tie.Need-loop-again Inv-loop μ-loop
-loop-again c = black-drop (c .before .before .before .before .before .before .before .before .before .before .before .before .before .before .pre .0) (c .before .before .before .before .before .before .before .before .loop .inv) (c .before .before .before .before .before .before .before .loop-test .taken) _ _ _ (c .before .before .before .before .before .before .before .before .before .before .before .before .before .before .pre .1) (c .before .before .before .before .before .word-at .ensures) (c .before .before .before .before .before .before .before .before .before .before .before .black-shift .ensures) refl _ refl (c .before .before .before .before .if1 .taken) (c .before .before .remove .ensures)
+loop-again c =
+    let b₄ = c .before .before .before .before in
+    let b₈ = b₄ .before .before .before .before in
+    let b₁₂ = b₈ .before .before .before .before in
+    black-drop (b₁₂ .before .before .pre .0) (b₈ .loop .inv) (b₄ .before .before .before .loop-test .taken) _ _ _ (b₁₂ .before .before .pre .1)
+    (b₄ .before .word-at .ensures) (b₈ .before .before .before .black-shift .ensures) refl _ refl (b₄ .if1 .taken) (c .before .before .remove .ensures)
 
 add-i : tie.Need-add-i Inv-loop μ-loop
 add-i c = search needs
@@ -64,7 +72,11 @@ loop-less-2 : tie.Need-loop-less-2 Inv-loop μ-loop
 loop-less-2 c = search needs
 
 loop-again-2 : tie.Need-loop-again-2 Inv-loop μ-loop
-loop-again-2 c = black-keep (c .before .before .before .before .before .before .before .before .before .before .pre .0) (c .before .before .before .before .loop .inv) (c .before .before .before .loop-test .taken) _ _ _ (c .before .before .before .before .before .before .before .before .before .before .pre .1) (c .before .word-at .ensures) (c .before .before .before .before .before .before .before .black-shift .ensures) refl (c .if1 .left)
+loop-again-2 c =
+    let b₄ = c .before .before .before .before in
+    let b₈ = b₄ .before .before .before .before in
+    black-keep (b₈ .before .before .pre .0) (b₄ .loop .inv) (c .before .before .before .loop-test .taken) _ _ _ (b₈ .before .before .pre .1)
+    (c .before .word-at .ensures) (b₄ .before .before .before .black-shift .ensures) refl (c .if1 .left)
 
 same-length : tie.Need-same-length Inv-loop μ-loop
 same-length c = search needs

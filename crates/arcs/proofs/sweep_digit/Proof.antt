@@ -35,7 +35,9 @@ mul-wide : tie.Need-mul-wide Inv-loop μ-loop
 mul-wide c = omega (arith, sweep-line (c .before .before .before .before .before .pre .0))
 
 slice-read-wide : tie.Need-slice-read-wide Inv-loop μ-loop
-slice-read-wide c = omega (arith, sweep-line (c .before .before .before .before .before .before .pre .0), c .before .before .before .before .before .before .pre .0 .ready .sized .size)
+slice-read-wide c =
+    let b₄ = c .before .before .before .before in
+    omega (arith, sweep-line (b₄ .before .before .pre .0), b₄ .before .before .pre .0 .ready .sized .size)
 
 wide-requires : tie.Need-wide-requires Inv-loop μ-loop
 wide-requires c κs = search needs
@@ -44,13 +46,20 @@ loop-holds : tie.Need-loop-holds Inv-loop μ-loop
 loop-holds c = (sweep-start (c .before .before .before .before .before .before .before .pre .0) _ (c .wide .ensures), c .before .before .having .ensures)
 
 word-at-requires : tie.Need-word-at-requires Inv-loop μ-loop
-word-at-requires c κs = sweep-read (c .before .before .before .before .before .before .before .before .before .before .pre .0) (c .before .before .loop .inv .0) (c .before .loop-test .taken)
+word-at-requires c κs =
+    let b₄ = c .before .before .before .before in
+    let b₈ = b₄ .before .before .before .before in
+    sweep-read (b₈ .before .before .pre .0) (c .before .before .loop .inv .0) (c .before .loop-test .taken)
 
 mul-keeps : tie.Need-mul-keeps Inv-loop μ-loop
 mul-keeps c = omega (arith, sweep-small (c .before .before .before .before .before .before .before .before .before .before .before .pre .0))
 
 slice-read-keeps : tie.Need-slice-read-keeps Inv-loop μ-loop
-slice-read-keeps c = omega (arith, sweep-small (c .before .before .before .before .before .before .before .before .before .before .before .before .pre .0), sweep-bounds (c .before .before .before .before .before .before .before .before .before .before .before .before .pre .0) (c .before .before .before .before .loop .inv .0))
+slice-read-keeps c =
+    let b₄ = c .before .before .before .before in
+    let b₈ = b₄ .before .before .before .before in
+    let b₁₂ = b₈ .before .before .before .before in
+    omega (arith, sweep-small (b₁₂ .pre .0), sweep-bounds (b₁₂ .pre .0) (b₄ .loop .inv .0))
 
 keeps-requires : tie.Need-keeps-requires Inv-loop μ-loop
 keeps-requires c κs = search needs
@@ -62,10 +71,22 @@ loop-less : tie.Need-loop-less Inv-loop μ-loop
 loop-less c = search needs
 
 loop-again : tie.Need-loop-again Inv-loop μ-loop
-loop-again c = (digit-keep (c .before .before .before .before .before .before .before .before .before .before .before .before .before .before .pre .0) (c .before .before .before .before .before .before .loop .inv .0) (c .before .before .before .before .before .loop-test .taken) _ _ _ _ _ (c .before .before .before .before .before .before .before .before .before .before .before .before .before .before .pre .1) (c .before .before .before .word-at .ensures) (c .before .before .before .before .before .before .before .before .before .before .before .digit-test .ensures) refl (c .before .keeps .ensures) (c .before .before .before .before .before .before .before .before .before .before .before .before .shared-slice-known .given _ .fits) (c .before .before .slice-known3 .given _ .fits) (c .if1 .taken), c .before .before .before .before .before .before .loop .inv .1)
+loop-again c =
+    let b₄ = c .before .before .before .before in
+    let b₈ = b₄ .before .before .before .before in
+    let b₁₂ = b₈ .before .before .before .before in (
+      digit-keep (b₁₂ .before .before .pre .0) (b₄ .before .before .loop .inv .0) (b₄ .before .loop-test .taken) _ _ _ _ _ (b₁₂ .before .before .pre .1)
+          (c .before .before .before .word-at .ensures) (b₈ .before .before .before .digit-test .ensures) refl (c .before .keeps .ensures)
+          (b₁₂ .shared-slice-known .given _ .fits) (c .before .before .slice-known3 .given _ .fits) (c .if1 .taken),
+      b₄ .before .before .loop .inv .1,
+    )
 
 slice-read-t : tie.Need-slice-read-t Inv-loop μ-loop
-slice-read-t c = omega (arith, sweep-bounds (c .before .before .before .before .before .before .before .before .before .before .before .before .before .before .before .pre .0) (c .before .before .before .before .before .before .before .loop .inv .0))
+slice-read-t c =
+    let b₄ = c .before .before .before .before in
+    let b₈ = b₄ .before .before .before .before in
+    let b₁₂ = b₈ .before .before .before .before in
+    omega (arith, sweep-bounds (b₁₂ .before .before .before .pre .0) (b₄ .before .before .before .loop .inv .0))
 
 sub-len : tie.Need-sub-len Inv-loop μ-loop
 sub-len c = search needs
@@ -78,13 +99,30 @@ remove-requires c κs =
     sweep-ask a s b _ _ refl (sweep-word a s b _ (c .before .before .before .before .before .word-at .ensures))
 
 having-since-requires : tie.Need-having-since-requires Inv-loop μ-loop
-having-since-requires c κs = digit-have (c .before .before .before .before .before .before .before .before .before .before .before .before .before .before .before .before .before .before .before .before .pre .0) (c .before .before .before .before .before .before .before .before .before .before .before .before .loop .inv .0) (c .before .before .before .before .before .before .before .before .before .before .before .loop-test .taken) _ _ _ _ _ (c .before .before .before .before .before .before .before .before .before .before .before .before .before .before .before .before .before .before .before .before .pre .1) (c .before .before .before .before .before .before .before .before .before .word-at .ensures) (c .before .before .before .before .before .before .before .before .before .before .before .before .before .before .before .before .before .digit-test .ensures) refl (c .before .before .before .before .before .before .before .keeps .ensures) (c .before .before .before .before .before .before .before .before .before .before .before .before .loop .inv .1) (c .before .before .before .remove .ensures)
+having-since-requires c κs =
+    let b₄ = c .before .before .before .before in
+    let b₈ = b₄ .before .before .before .before in
+    let b₁₂ = b₈ .before .before .before .before in
+    let b₁₆ = b₁₂ .before .before .before .before in
+    let b₂₀ = b₁₆ .before .before .before .before in
+    digit-have (b₂₀ .pre .0) (b₁₂ .loop .inv .0) (b₈ .before .before .before .loop-test .taken) _ _ _ _ _ (b₂₀ .pre .1) (b₈ .before .word-at .ensures)
+    (b₁₆ .before .digit-test .ensures) refl (b₄ .before .before .before .keeps .ensures) (b₁₂ .loop .inv .1) (c .before .before .before .remove .ensures)
 
 loop-less-2 : tie.Need-loop-less-2 Inv-loop μ-loop
 loop-less-2 c = search needs
 
 loop-again-2 : tie.Need-loop-again-2 Inv-loop μ-loop
-loop-again-2 c = (digit-drop (c .before .before .before .before .before .before .before .before .before .before .before .before .before .before .before .before .before .before .before .before .before .pre .0) (c .before .before .before .before .before .before .before .before .before .before .before .before .before .loop .inv .0) (c .before .before .before .before .before .before .before .before .before .before .before .before .loop-test .taken) _ _ _ _ _ (c .before .before .before .before .before .before .before .before .before .before .before .before .before .before .before .before .before .before .before .before .before .pre .1) (c .before .before .before .before .before .before .before .before .before .before .word-at .ensures) (c .before .before .before .before .before .before .before .before .before .before .before .before .before .before .before .before .before .before .digit-test .ensures) refl (c .before .before .before .before .before .before .before .before .keeps .ensures) _ refl (c .before .before .before .before .before .before .before .if1 .left) (c .before .before .before .before .before .before .before .before .before .before .before .before .before .loop .inv .1) (c .before .before .before .before .remove .ensures), c .having-since .ensures)
+loop-again-2 c =
+    let b₄ = c .before .before .before .before in
+    let b₈ = b₄ .before .before .before .before in
+    let b₁₂ = b₈ .before .before .before .before in
+    let b₁₆ = b₁₂ .before .before .before .before in
+    let b₂₀ = b₁₆ .before .before .before .before in (
+      digit-drop (b₂₀ .before .pre .0) (b₁₂ .before .loop .inv .0) (b₁₂ .loop-test .taken) _ _ _ _ _ (b₂₀ .before .pre .1)
+          (b₈ .before .before .word-at .ensures) (b₁₆ .before .before .digit-test .ensures) refl (b₈ .keeps .ensures) _ refl
+          (b₄ .before .before .before .if1 .left) (b₁₂ .before .loop .inv .1) (b₄ .remove .ensures),
+      c .having-since .ensures,
+    )
 
 same-length : tie.Need-same-length Inv-loop μ-loop
 same-length c = c .before .loop .inv .0 .within .grown .size

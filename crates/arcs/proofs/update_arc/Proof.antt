@@ -16,13 +16,19 @@ add-update-digit : tie.Need-add-update-digit
 add-update-digit c = search needs
 
 update-digit-requires-2 : tie.Need-update-digit-requires-2
-update-digit-requires-2 c κs = (arc-column (arc-next (c .before .before .before .before .before .before .before .before .pre) (c .before .before .before .update-digit .ensures)) (inl (c .before .before .before .before .before .if1 .taken)), c .before .before .before .before .before .if1 .taken)
+update-digit-requires-2 c κs =
+    let b₄ = c .before .before .before .before in
+    let b₈ = b₄ .before .before .before .before in
+    (arc-column (arc-next (b₈ .pre) (c .before .before .before .update-digit .ensures)) (inl (b₄ .before .if1 .taken)), b₄ .before .if1 .taken)
 
 same-length : tie.Need-same-length
 same-length c = search needs
 
 returns : tie.Need-returns
-returns c = arc-digit (c .before .before .before .before .before .before .before .before .before .before .before .pre) (c .before .before .before .before .before .before .update-digit .ensures) (c .before .before .update-digit2 .ensures) (c .before .before .before .before .before .before .before .before .if1 .taken)
+returns c =
+    let b₄ = c .before .before .before .before in
+    let b₈ = b₄ .before .before .before .before in
+    arc-digit (b₈ .before .before .before .pre) (b₄ .before .before .update-digit .ensures) (c .before .before .update-digit2 .ensures) (b₈ .if1 .taken)
 
 mul-update-black : tie.Need-mul-update-black
 mul-update-black c = search needs
@@ -34,7 +40,10 @@ same-length-2 : tie.Need-same-length-2
 same-length-2 c = search needs
 
 returns-2 : tie.Need-returns-2
-returns-2 c = arc-row-black (c .before .before .before .before .before .before .before .before .pre) (c .before .before .before .before .before .if1 .left) (c .before .before .before .before .if2 .taken) (c .before .before .update-black .ensures)
+returns-2 c =
+    let b₄ = c .before .before .before .before in
+    let b₈ = b₄ .before .before .before .before in
+    arc-row-black (b₈ .pre) (b₄ .before .if1 .left) (b₄ .if2 .taken) (c .before .before .update-black .ensures)
 
 add-update-black : tie.Need-add-update-black
 add-update-black c = search needs
@@ -46,7 +55,10 @@ same-length-3 : tie.Need-same-length-3
 same-length-3 c = search needs
 
 returns-3 : tie.Need-returns-3
-returns-3 c = arc-column-black (c .before .before .before .before .before .before .before .before .pre) (c .before .before .before .before .if2 .left) (c .before .before .update-black2 .ensures)
+returns-3 c =
+    let b₄ = c .before .before .before .before in
+    let b₈ = b₄ .before .before .before .before in
+    arc-column-black (b₈ .pre) (b₄ .if2 .left) (c .before .before .update-black2 .ensures)
 
 pub update-arc-spec : {M : Type 1} → statement M
 update-arc-spec =

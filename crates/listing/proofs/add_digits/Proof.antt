@@ -33,7 +33,9 @@ loop-less : tie.Need-loop-less Inv-loop μ-loop
 loop-less c = digits-less (c .before .before .before .before .before .loop .inv) (c .before .before .before .before .loop-test .taken)
 
 loop-again : tie.Need-loop-again Inv-loop μ-loop
-loop-again c = digits-next (c .before .before .before .before .before .loop .inv) (c .before .before .before .before .loop-test .taken) (c .before .before .raise-support .ensures)
+loop-again c =
+    let a = c .before .before .before .before in
+    digits-next (a .before .loop .inv) (a .loop-test .taken) (c .before .before .raise-support .ensures)
 
 same-length : tie.Need-same-length Inv-loop μ-loop
 same-length c = search needs

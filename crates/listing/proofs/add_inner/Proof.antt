@@ -28,7 +28,9 @@ shr-if1 : tie.Need-shr-if1 Inv-loop μ-loop
 shr-if1 c = search needs
 
 add-digits-requires : tie.Need-add-digits-requires Inv-loop μ-loop
-add-digits-requires c κs = λ v h. inner-can _ _ _ (c .before .before .before .loop .inv .1) v (c .before .before .before .before .before .before .pre .1 _ v (c .before .before .loop-test .taken) h)
+add-digits-requires c κs =
+    let a = c .before .before .before in
+    λ v h. inner-can _ _ _ (a .loop .inv .1) v (a .before .before .before .pre .1 _ v (c .before .before .loop-test .taken) h)
 
 add-p : tie.Need-add-p Inv-loop μ-loop
 add-p c = search needs
@@ -39,7 +41,10 @@ loop-less c = search needs
 loop-again : tie.Need-loop-again Inv-loop μ-loop
 loop-again c =
     let r = c .before .before .loop .inv .1 in
-    (search needs, ⊎-elim (λ w. rw (w .5) (inner-yes _ _ _ r _ (c .before .before .before .set-of .ensures) (w .0 .taken) (w .2 .ensures))) (λ w. rw (w .1) (inner-no _ _ _ r (w .0 .left))) (c .if1 .came))
+    let e = c .before .before .before .set-of .ensures in (
+      search needs,
+      ⊎-elim (λ w. rw (w .5) (inner-yes _ _ _ r _ e (w .0 .taken) (w .2 .ensures))) (λ w. rw (w .1) (inner-no _ _ _ r (w .0 .left))) (c .if1 .came),
+    )
 
 same-length : tie.Need-same-length Inv-loop μ-loop
 same-length c = search needs

@@ -26,7 +26,8 @@ add-inner-requires : tie.Need-add-inner-requires
 add-inner-requires c κs =
     let b = c .before .before .before in
     let a = b .before .before .before .before .before in
-    (search needs, word-inner (a .before .before .before .before .pre) _ _ (a .before .first-of .ensures) (b .before .second-of .ensures) (a .raise-support .ensures) (b .raise-support2 .ensures))
+    let w = a .before .before .before .before .pre in
+    (search needs, word-inner w _ _ (a .before .first-of .ensures) (b .before .second-of .ensures) (a .raise-support .ensures) (b .raise-support2 .ensures))
 
 same-length : tie.Need-same-length
 same-length c = search needs
@@ -35,7 +36,9 @@ returns : tie.Need-returns
 returns c =
     let b = c .before .before .before .before .before .before in
     let a = b .before .before .before .before .before in
-    word-raised (a .before .before .before .before .pre) _ _ (a .before .first-of .ensures) (b .before .second-of .ensures) (a .raise-support .ensures) (b .raise-support2 .ensures) (c .before .before .add-inner .ensures)
+    let w = a .before .before .before .before .pre in
+    let e = c .before .before .add-inner .ensures in
+    word-raised w _ _ (a .before .first-of .ensures) (b .before .second-of .ensures) (a .raise-support .ensures) (b .raise-support2 .ensures) e
 
 pub add-support-spec : {M : Type 1} → statement M
 add-support-spec =

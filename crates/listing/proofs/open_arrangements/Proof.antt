@@ -14,7 +14,9 @@ same-length : tie.Need-same-length
 same-length c = search needs
 
 returns : tie.Need-returns
-returns c = let a = c .before .before .before .before .before .before in all-arranged (a .before .before .before .before .before .before .pre) (a .open-lines .ensures) (c .before .before .open-lines2 .ensures)
+returns c =
+    let a = c .before .before .before .before .before .before in
+    all-arranged (a .before .before .before .before .before .before .pre) (a .open-lines .ensures) (c .before .before .open-lines2 .ensures)
 
 pub open-arrangements-spec : {M : Type 1} → statement M
 open-arrangements-spec =

@@ -14,7 +14,9 @@ open-side-requires : tie.Need-open-side-requires
 open-side-requires c κs = inside-ask _ _ (c .before .max-target .ensures) (c .before .before .before .before .pre .0)
 
 open-side-requires-2 : tie.Need-open-side-requires-2
-open-side-requires-2 c κs = let b = c .before .before .before .before .before in outside-ask _ _ (b .max-target .ensures) (b .before .before .before .pre .0) (c .before .before .before .open-side .ensures)
+open-side-requires-2 c κs =
+    let b = c .before .before .before .before .before in
+    outside-ask _ _ (b .max-target .ensures) (b .before .before .before .pre .0) (c .before .before .before .open-side .ensures)
 
 same-length : tie.Need-same-length
 same-length c = search needs

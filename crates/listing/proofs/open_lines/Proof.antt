@@ -43,7 +43,8 @@ loop-again c =
     let w = c .before .before .before in
     let b = w .before .before .before in
     let a = b .before in
-    (search needs, lines-next (a .before .before .before .before .pre) _ (b .loop-test .taken) (a .loop .inv .1) _ (w .wide .ensures) (c .before .before .open-line .ensures))
+    let r = c .before .before .open-line .ensures in
+    (search needs, lines-next (a .before .before .before .before .pre) _ (b .loop-test .taken) (a .loop .inv .1) _ (w .wide .ensures) r)
 
 same-length : tie.Need-same-length Inv-loop μ-loop
 same-length c = search needs

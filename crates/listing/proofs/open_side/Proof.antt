@@ -59,7 +59,9 @@ loop-again c =
     let g = b .before .before .loop .inv in
     let h = b .before .loop-test .taken in
     let e = b .is-wanted .ensures in
-    ⊎-elim (λ w. rw (w .6) (side-next _ _ _ g _ e h (w .0 .taken) _ (w .2 .ensures) (w .3 .ensures))) (λ w. rw (w .1) (side-skip _ _ _ g _ e h (w .0 .left))) (c .if1 .came)
+    ⊎-elim
+    (λ w. rw (w .6) (side-next _ _ _ g _ e h (w .0 .taken) _ (w .2 .ensures) (w .3 .ensures)))
+    (λ w. rw (w .1) (side-skip _ _ _ g _ e h (w .0 .left))) (c .if1 .came)
 
 same-length : tie.Need-same-length Inv-loop μ-loop
 same-length c = search needs

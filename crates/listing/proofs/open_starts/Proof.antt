@@ -9,7 +9,8 @@ use Rattle.listing.proofs.open_starts.Statement.{statement}
 use Rattle.listing.proofs.open_starts.Tie as tie
 
 abbrev Inv-loop : tie.InvT-loop
-Inv-loop st₀ words n line first outside s len start₀ st start = Adding n line first words st₀ st (startsFrom n outside s len start) (startsFrom n outside s len 0)
+Inv-loop st₀ words n line first outside s len start₀ st start =
+    Adding n line first words st₀ st (startsFrom n outside s len start) (startsFrom n outside s len 0)
 
 abbrev μ-loop : tie.MeasureT-loop
 μ-loop st₀ words n line first outside s len start₀ st start = n - start
@@ -49,7 +50,9 @@ loop-again c =
     let b = c .before in
     let g = b .before .before .loop .inv in
     let h = b .before .loop-test .taken in
-    ⊎-elim (λ w. rw (w .5) (starts-next _ _ _ _ g _ (b .on-side .ensures) h (w .0 .taken) (w .2 .ensures))) (λ w. rw (w .1) (starts-skip _ _ _ _ g _ (b .on-side .ensures) h (w .0 .left))) (c .if1 .came)
+    ⊎-elim
+    (λ w. rw (w .5) (starts-next _ _ _ _ g _ (b .on-side .ensures) h (w .0 .taken) (w .2 .ensures)))
+    (λ w. rw (w .1) (starts-skip _ _ _ _ g _ (b .on-side .ensures) h (w .0 .left))) (c .if1 .came)
 
 same-length : tie.Need-same-length Inv-loop μ-loop
 same-length c = search needs

@@ -30,7 +30,8 @@ loop-less c = search needs
 loop-again : tie.Need-loop-again Inv-loop μ-loop
 loop-again c =
     let a = c .before .before .before .before in
-    (search needs, row-next _ _ (omega (arith, a .loop-test .taken, a .before .before .before .pre .1)) (a .before .loop .inv .1) (c .before .before .seed-cell .ensures))
+    let h = a .before .before .before .pre .1 in
+    (search needs, row-next _ _ (omega (arith, a .loop-test .taken, h)) (a .before .loop .inv .1) (c .before .before .seed-cell .ensures))
 
 same-length : tie.Need-same-length Inv-loop μ-loop
 same-length c = search needs

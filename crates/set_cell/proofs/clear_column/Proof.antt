@@ -15,7 +15,8 @@ same-length c = search needs
 
 returns : tie.Need-returns
 returns c =
-    test-struck _ _ (c .before .before .before .before .before .in-column .ensures) (c .before .before .before .before .if1 .taken) (c .before .before .clear-sides .ensures)
+    test-struck _ _ (c .before .before .before .before .before .in-column .ensures) (c .before .before .before .before .if1 .taken)
+    (c .before .before .clear-sides .ensures)
 
 returns-2 : tie.Need-returns-2
 returns-2 c = test-none _ _ _ _ (c .before .in-column .ensures) (c .if1 .left)

@@ -28,8 +28,12 @@ add-clear-value c =
 
 clear-value-requires : tie.Need-clear-value-requires Inv-loop μ-loop
 clear-value-requires c κs =
-    let a = c .before .before .before .before in
-    (grown-sized (c .before .before .loop .inv .struck .grown) (a .pre .sized), a .pre .cells .inside (c .before .before .loop .p) (c .before .loop-test .taken), a .pre .value)
+    let a = c .before .before .before .before in (
+      grown-sized (c .before .before .loop .inv .struck .grown) (a .pre .sized),
+      a .pre .cells .inside (c .before .before .loop .p)
+          (c .before .loop-test .taken),
+      a .pre .value,
+    )
 
 add-p : tie.Need-add-p Inv-loop μ-loop
 add-p c = search needs

@@ -27,7 +27,8 @@ clear-around-requires c κs =
     let m = c .before .before .before in
     let k = m .before .before .before .before .before in
     let r = k .before .before .before .before in
-    ask-grown (m .clear-mask .ensures .grown) (ask-grown (k .clear-column .ensures .grown) (ask-grown (r .clear-row .ensures .grown) (r .before .before .before .pre)))
+    ask-grown (m .clear-mask .ensures .grown) (ask-grown (k .clear-column .ensures .grown)
+    (ask-grown (r .clear-row .ensures .grown) (r .before .before .before .pre)))
 
 same-length : tie.Need-same-length
 same-length c = search needs

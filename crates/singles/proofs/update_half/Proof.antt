@@ -19,13 +19,15 @@ cast-set-cell : tie.Need-cast-set-cell
 cast-set-cell c =
     let b = c .before .before .before .before .before .before in
     let s = b .before .before .before .before in
-    fits-under _ _ 12 (ask-value (half-set-ask (s .pre) (b .before .before .if1 .taken) (b .lower .ensures) (c .before .before .slice-known3 .given (s .args .cell) .fits) (c .before .if3 .taken)) .1) tt
+    fits-under _ _ 12 (ask-value (half-set-ask (s .pre) (b .before .before .if1 .taken) (b .lower .ensures)
+    (c .before .before .slice-known3 .given (s .args .cell) .fits) (c .before .if3 .taken)) .1) tt
 
 set-cell-requires : tie.Need-set-cell-requires
 set-cell-requires c κs =
     let b = c .before .before .before .before .before .before in
     let s = b .before .before .before .before in
-    half-set-ask (s .pre) (b .before .before .if1 .taken) (b .lower .ensures) (c .before .before .slice-known3 .given (s .args .cell) .fits) (c .before .if3 .taken)
+    half-set-ask (s .pre) (b .before .before .if1 .taken) (b .lower .ensures) (c .before .before .slice-known3 .given (s .args .cell) .fits)
+    (c .before .if3 .taken)
 
 same-length : tie.Need-same-length
 same-length c = search needs

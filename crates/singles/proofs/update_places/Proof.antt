@@ -16,12 +16,20 @@ find-place-requires c κs =
 mul-cell : tie.Need-mul-cell
 mul-cell c =
     let b = c .before .before .before .before .before .before in
-    omega (arith, place-cell (b .before .before .before .before .pre) (b .before .before .if1 .taken) (b .lower .ensures) (c .before .find-place .ensures) (c .if3 .taken))
+    omega (
+      arith,
+      place-cell (b .before .before .before .before .pre) (b .before .before .if1 .taken) (b .lower .ensures) (c .before .find-place .ensures)
+          (c .if3 .taken),
+    )
 
 add-cell : tie.Need-add-cell
 add-cell c =
     let b = c .before .before .before .before .before .before in
-    omega (arith, place-cell (b .before .before .before .before .pre) (b .before .before .if1 .taken) (b .lower .ensures) (c .before .find-place .ensures) (c .if3 .taken))
+    omega (
+      arith,
+      place-cell (b .before .before .before .before .pre) (b .before .before .if1 .taken) (b .lower .ensures) (c .before .find-place .ensures)
+          (c .if3 .taken),
+    )
 
 set-cell-requires : tie.Need-set-cell-requires
 set-cell-requires c κs =

@@ -33,7 +33,9 @@ array-read-x c = search needs
 
 fill-starts-requires : tie.Need-fill-starts-requires Inv-loop μ-loop
 unfolding subset subsetTable
-fill-starts-requires c κs = filled-ask (c .before .before .before .before .before .pre .0) (c .before .before .before .loop .inv) (c .before .before .loop-test .taken) (c .before .if1 .taken)
+fill-starts-requires c κs =
+    let b₄ = c .before .before .before .before in
+    filled-ask (b₄ .before .pre .0) (c .before .before .before .loop .inv) (c .before .before .loop-test .taken) (c .before .if1 .taken)
 
 add-s : tie.Need-add-s Inv-loop μ-loop
 add-s c = search needs

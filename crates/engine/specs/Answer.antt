@@ -1,0 +1,17 @@
+-- The answer of Count, by its cases. Assumes nothing.
+use Prim.Native.Nat.{ℕ, zero, suc}
+use mathlib.Core.Path.{_≡_}
+use mathlib.Core.List.{List}
+use Rattle.rules.specs.Grid.{Puzzle}
+use Rattle.rules.specs.Check.{refusal, countChecks}
+use Rattle.engine.specs.declared.Counted.{Counted}
+use Rattle.engine.specs.declared.Counted.the-variants.{Refused, Count}
+
+-- The answer of a refusal number and a count: 0 is not refused.
+abbrev pub counted : ℕ → ℕ → Counted
+counted (suc k) c = Refused (suc k)
+counted zero c = Count c
+
+-- A puzzle and marks that are not refused.
+pub record CountAsk (p : Puzzle) (ms : List ℕ) : Type 0 where
+  pub accepted : refusal (countChecks p ms) ≡ 0
