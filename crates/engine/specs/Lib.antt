@@ -1,2 +1,4 @@
 pub mod Answer
 pub mod CountLaws
+pub mod Solve
+pub mod SolveLaws

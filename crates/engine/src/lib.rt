@@ -1,18 +1,27 @@
-// Count (in the Rust: count_solutions).
+// Count and Solve (in the Rust: count_solutions and solve).
 use backtrack::search;
 use marks::marks_refusal;
 use prepare::prepare;
 use puzzle::puzzle_refusal;
 ghost use mathlib.Core.Path.{_≡_};
 ghost use Rattle.rules.specs.Mark.{marksOf};
-ghost use Rattle.rules.specs.Check.{refusal, countChecks};
-ghost use Rattle.rules.specs.Number.{capped};
+ghost use lib.ListN.{length};
+ghost use Rattle.rules.specs.Check.{refusal, countChecks, solveChecks};
+ghost use Rattle.rules.specs.Number.{capped, verdictOf};
 ghost use Rattle.puzzle.specs.Given.{puzzle};
 ghost use Rattle.engine.specs.Answer.{counted, CountAsk};
+ghost use Rattle.engine.specs.Solve.{solvedAs, SolveAsk, Found, SolveGiven};
 
 pub enum Counted {
     Refused(u8),
     Count(u64),
+}
+
+pub enum Solved {
+    Refused(u8),
+    Unsolvable,
+    Unique,
+    Multiple,
 }
 
 // The number that a puzzle or its marks are refused by, or 0.
@@ -49,4 +58,51 @@ pub fn count(size: usize, rows: &[u8], columns: &[u8], marks: &[u8], cap: u64) -
         return Counted::Refused(k);
     }
     Counted::Count(count_grids(size, rows, columns, marks, cap))
+}
+
+// The number that a puzzle, its marks or a cell buffer are refused by, or 0.
+fn solve_refusal(n: usize, rows: &[u8], columns: &[u8], marks: &[u8], len: usize) -> u8
+    ensures { λ r. ⌜ r ≡ refusal (solveChecks (puzzle n (now (rows .entry)) (now (columns .entry))) (marksOf (now (marks .entry))) len) ⌝ }
+{
+    let k = count_refusal(n, rows, columns, marks);
+    if k != 0 {
+        return k;
+    }
+    if len == n * n { 0 } else { 7 }
+}
+
+// The count of what is not refused, up to two; the first grid is written.
+fn solve_grids(n: usize, rows: &[u8], columns: &[u8], marks: &[u8], cells: &mut [u8]) -> u64
+    requires { ⌜ SolveAsk (puzzle n (now rows) (now columns)) (marksOf (now marks)) (length (now cells)) ⌝ }
+    ensures { λ r. ⌜ Found (puzzle n (now (rows .entry)) (now (columns .entry))) (marksOf (now (marks .entry))) r (now (cells .entry)) (now (cells .exit)) ⌝ }
+{
+    let mut st = [0u16; 5599];
+    let mut words = [0u32; 1152];
+    if !prepare(&mut st, &mut words, n, rows, columns, marks) {
+        return 0;
+    }
+    search(&mut st, &words, n, 2, true, cells)
+}
+
+fn verdict(found: u64) -> Solved
+    ensures { λ r. ⌜ r ≡ solvedAs 0 (verdictOf found) ⌝ }
+{
+    if found == 0 {
+        return Solved::Unsolvable;
+    }
+    if found == 1 {
+        return Solved::Unique;
+    }
+    Solved::Multiple
+}
+
+// The verdict, and one of the grids if there is one.
+pub fn solve(size: usize, rows: &[u8], columns: &[u8], marks: &[u8], cells: &mut [u8]) -> Solved
+    ensures { λ r. ⌜ SolveGiven (puzzle size (now (rows .entry)) (now (columns .entry))) (marksOf (now (marks .entry))) r (now (cells .entry)) (now (cells .exit)) ⌝ }
+{
+    let k = solve_refusal(size, rows, columns, marks, cells.len());
+    if k != 0 {
+        return Solved::Refused(k);
+    }
+    verdict(solve_grids(size, rows, columns, marks, cells))
 }

@@ -1,0 +1,36 @@
+-- The answer of Solve, by its cases, and the grid that it writes. Assumes nothing.
+use Prim.Native.Nat.{ℕ, zero, suc, _<_}
+use mathlib.Core.Path.{_≡_}
+use mathlib.Core.Logic.{_⊎_}
+use mathlib.Core.List.{List}
+use lib.ListN.{length}
+use Rattle.rules.specs.Grid.{Puzzle}
+use Rattle.rules.specs.Check.{refusal, solveChecks}
+use Rattle.rules.specs.Number.{number, capped, Verdict, unsolvable, unique, multiple, verdictOf}
+use Rattle.number.specs.VerdictLaws.{Solution}
+use Rattle.engine.specs.declared.Solved.{Solved}
+use Rattle.engine.specs.declared.Solved.the-variants.{Refused, Unsolvable, Unique, Multiple}
+
+-- The answer of a refusal number and a verdict: 0 is not refused.
+abbrev pub solvedAs : ℕ → Verdict → Solved
+solvedAs (suc k) v = Refused (suc k)
+solvedAs zero unsolvable = Unsolvable
+solvedAs zero unique = Unique
+solvedAs zero multiple = Multiple
+
+-- The answer is the verdict on the number of grids. The cells hold one of these grids, which of them is left open; on a refusal, and if there is none,
+-- they are as they were.
+pub record SolveGiven (p : Puzzle) (ms : List ℕ) (answer : Solved) (cells cells′ : List ℕ) : Type 0 where
+  pub answer-is : answer ≡ solvedAs (refusal (solveChecks p ms (length cells))) (verdictOf (number p ms))
+  pub untouched : (refusal (solveChecks p ms (length cells)) ≡ 0 → ⊥) ⊎ (number p ms ≡ 0) → cells′ ≡ cells
+  pub written : refusal (solveChecks p ms (length cells)) ≡ 0 → 0 < number p ms → Solution p ms cells′
+
+-- A puzzle, marks and a cell buffer that are not refused.
+pub record SolveAsk (p : Puzzle) (ms : List ℕ) (len : ℕ) : Type 0 where
+  pub accepted : refusal (solveChecks p ms len) ≡ 0
+
+-- Up to two grids are counted, and one is in the cells if there is one.
+pub record Found (p : Puzzle) (ms : List ℕ) (found : ℕ) (cells cells′ : List ℕ) : Type 0 where
+  pub count : found ≡ capped 2 p ms
+  pub untouched : found ≡ 0 → cells′ ≡ cells
+  pub written : 0 < found → Solution p ms cells′
