@@ -29,17 +29,13 @@ use Rattle.listing.specs.Listing.{targetAt}
 use Rattle.opening.specs.Opening.{Opened}
 use Rattle.held.specs.Held.{held-holding, held-fits}
 use Rattle.state.specs.State.{number, Kept, Occupied, Lagging}
+use Rattle.propagate.specs.Flow.{number-of}
 use Rattle.puzzle.specs.Given.{puzzle}
 
 target-at : (n : ℕ) (rows columns : List ℕ) (ℓ : Line) → n ≤ 9 → index ℓ < n → targetAt rows columns (number ℓ) ≡ target (puzzle n rows columns) ℓ
 unfolding targetAt number index target
 target-at n rows columns (across r) z h = rw (lt-ltb r 9 (omega arith))
 target-at n rows columns (down c) z h = let e : 9 + c - 9 ≡ c = omega arith in rw (le-ltb (9 + c) 9 (omega arith), e)
-
-number-of : (n : ℕ) (ℓ : Line) → index ℓ < n → LineOf n (number ℓ)
-unfolding LineOf number index
-number-of n (across r) h = inl h
-number-of n (down c) h = inr (omega arith, omega arith)
 
 module _ {n : ℕ} {rows columns l l′ : List ℕ} (s : Size n) (f : Fresh n l) (o : Opened n rows columns l l′) where
   small : n ≤ 9

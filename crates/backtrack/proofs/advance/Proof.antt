@@ -1,19 +1,11 @@
 -- `backtrack::advance` meets its contract. Assumes nothing.
-use mathlib.Core.Path.{_≡_, refl, sym, subst}
-use mathlib.Core.Bool.{Bool, true, false, not}
+use mathlib.Core.Path.{subst}
 use borrow.Author.Needs.{needs}
+use borrow.Author.Tests.{not-true, not-false}
 use Rattle.pick.specs.Choice.{Picked}
 use Rattle.backtrack.specs.AdvanceLaws.{advance-none, advance-ready, advance-one, advance-branch}
 use Rattle.backtrack.proofs.advance.Statement.{statement}
 use Rattle.backtrack.proofs.advance.Tie as tie
-
-not-true : (b : Bool) → not b ≡ true → b ≡ false
-not-true true e = sym e
-not-true false e = refl
-
-not-false : (b : Bool) → not b ≡ false → b ≡ true
-not-false true e = refl
-not-false false e = sym e
 
 propagate-requires : tie.Need-propagate-requires
 propagate-requires c κs = search needs

@@ -1,20 +1,11 @@
 -- `engine::solve_grids` meets its contract. Assumes nothing.
-use mathlib.Core.Path.{_≡_, refl, sym}
-use mathlib.Core.Bool.{Bool, true, false, not}
 use Rattle.fresh.specs.FillLaws.{blank-zeros}
 use Rattle.engine.specs.CountLaws.{count-prepare}
 use Rattle.engine.specs.SolveLaws.{solve-count, solve-none, solve-search, solve-found}
 use borrow.Author.Needs.{needs}
+use borrow.Author.Tests.{not-true, not-false}
 use Rattle.engine.proofs.solve_grids.Statement.{statement}
 use Rattle.engine.proofs.solve_grids.Tie as tie
-
-not-true : (b : Bool) → not b ≡ true → b ≡ false
-not-true true e = sym e
-not-true false e = refl
-
-not-false : (b : Bool) → not b ≡ false → b ≡ true
-not-false true e = refl
-not-false false e = sym e
 
 slice-aggregate-prepare : tie.Need-slice-aggregate-prepare
 slice-aggregate-prepare c = search needs

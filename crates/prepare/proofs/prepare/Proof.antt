@@ -1,18 +1,9 @@
 -- `prepare::prepare` meets its contract. Assumes nothing.
-use mathlib.Core.Path.{_≡_, refl, sym}
-use mathlib.Core.Bool.{Bool, true, false, not}
 use borrow.Author.Needs.{needs}
+use borrow.Author.Tests.{not-true, not-false}
 use Rattle.prepare.specs.PrepareLaws.{prepare-size, prepare-open, prepare-propagable, prepare-none, prepare-marks, prepare-done}
 use Rattle.prepare.proofs.prepare.Statement.{statement}
 use Rattle.prepare.proofs.prepare.Tie as tie
-
-not-true : (b : Bool) → not b ≡ true → b ≡ false
-not-true true e = sym e
-not-true false e = refl
-
-not-false : (b : Bool) → not b ≡ false → b ≡ true
-not-false true e = refl
-not-false false e = sym e
 
 fill-words-requires : tie.Need-fill-words-requires
 fill-words-requires c κs = let a = c .before .before .before .before .before .before .pre in (prepare-size a, a .room)
