@@ -1,16 +1,17 @@
 -- The masks that are written stand for the table. Assumes nothing.
 use Prim.Native.Nat.{ℕ, zero, suc, _+_, _-_, _*_, _/_, _%_, _^_, _≤_, _<_}
 use mathlib.Core.Path.{_≡_, sym, ap, _∙_}
+use mathlib.Core.Bool.{true}
 use mathlib.Core.Logic.{inl, inr, ⊎-elim}
 use mathlib.Core.List.{List, [], _∷_, _++_, map, List·Memᴰ, List·Memᴰ·head, List·Memᴰ·tail, List·Memᴰ·append-cases, List·Memᴰ·not-nil}
 use native.Mathlib.Omega.{arith}
-use native.Mathlib.Decide.{ℕ-discrete}
+use native.Mathlib.Decide.{ℕ-discrete, decLt}
 use native.Mathlib.Nat.{mul-le-mul, mod-eq-of-lt, mod-lt, add-comm, add-zero}
 use lib.Arith.{digits-div, digits-mod}
 use lib.Dec.{eqb}
 use lib.ListN.{getD}
-use lib.Pow.{pow-pos, shr-shr, shr-lt, split, high, low, field, mod-mod-pow}
-use borrow.Author.Tests.{lt-ltb, le-ltb}
+use lib.Pow.{pow-pos, pow-mono, shr-shr, shr-lt, split, high, low, field, mod-mod-pow}
+use borrow.Author.Tests.{lt-ltb, le-ltb, eqb-true}
 use Rattle.tally.specs.Tally.{span}
 use Rattle.tally.specs.TallyLaws.{span-in}
 use Rattle.rules.specs.Line.{digits}
@@ -20,11 +21,11 @@ use Rattle.checks.specs.SizeLaws.{Size}
 use Rattle.value.specs.MaskLaws.{digits-small}
 use Rattle.table.specs.Table.{half, everyValue, bitOf, hasBit, tableOf}
 use Rattle.bits.specs.Bit.{bit}
-use Rattle.bits.specs.BitLaws.{bit-lt, bits-none}
+use Rattle.bits.specs.BitLaws.{bit-lt, bit-le, bits-none}
 use Rattle.slab.specs.Slab.{cand, tableIn}
 use Rattle.slab.specs.SlabLaws.{cand-in}
 use Rattle.slab.specs.Ready.{Ready, ValueOf, ready-valid}
-use Rattle.written.specs.Published.{mask, published}
+use Rattle.written.specs.Published.{mask, published, PublishedTable}
 
 -- ---- as the code writes it
 
@@ -151,3 +152,28 @@ module _ {n : ℕ} {l : List ℕ} (s : Ready n l) (r c : ℕ) (row : r < n) (col
       ap (bit (bitOf n v)) written-mask
       ∙ value-bit n (s .size) (getD l (r * 9 + c) 0) digits-below v (every-value n v (s .size) m)
       ∙ sym (cand-in l (r * 9 + c) v place))
+
+  -- Each bit that is written is that of a value.
+  pub published-plain : getD l (r * 9 + c) 0 < 65536 → (b : ℕ) → hasBit (cell n (published n l) r c) b ≡ true → (v : ℕ) × ValueOf n v × (bitOf n v ≡ b)
+  unfolding hasBit bitOf bit
+  published-plain small b e =
+      let m : ℕ = getD l (r * 9 + c) 0 in
+      let z = s .size in
+      let set : bit b (mask n m) ≡ 1 = ap (bit b) (sym written-mask) ∙ eqb-true _ _ e in
+      let there : (v : ℕ) → v < 16 → bit v m ≡ 1 → ValueOf n v = λ v h q. ready-valid s (r * 9 + c) v h (cand-in l (r * 9 + c) v place ∙ q) .value in
+      elim (decLt b (n - 1)) [
+        | yes h ↦
+            (b, there b (omega (arith, z .high)) (sym (digit-bit n z m digits-below b h) ∙ set), rw (lt-ltb b 8 (omega (arith, z .high))))
+        | no h ↦
+            let v : ℕ = b - (n - 1) + 8 in
+            let back : n + v - 9 ≡ b = omega (arith, z .low) in
+            let q : bit v m ≡ 1 = sym (black-bit n z m digits-below v (omega arith)) ∙ ap (λ k. bit k (mask n m)) back ∙ set in
+            elim (decLt v 16) [
+              | yes g ↦ (v, there v g q, rw (le-ltb v 8 (omega arith)) back)
+              | no g ↦ absurd (let p : 2 ^ 16 ≤ 2 ^ v = pow-mono {i = 16} {j = v} (omega arith) in omega (arith, bit-le v m q, p))
+            ]
+      ]
+
+pub published-whole : {n : ℕ} {l table : List ℕ} → Ready n l → ((i : ℕ) → getD l i 0 < 65536) → table ≡ published n l → PublishedTable n l table
+published-whole {n} {l} s small e =
+    record { masks = e; plain = λ r c h k b q. published-plain s r c h k (small _) b (ap (λ t. hasBit (cell n t r c) b) (sym e) ∙ q) }

@@ -1,11 +1,15 @@
 -- A table and a grid as they are written, row by row. Assumes nothing.
 use Prim.Native.Nat.{ℕ, _+_, _-_, _*_, _/_, _%_, _^_, _≤_, _<_}
+use mathlib.Core.Path.{_≡_}
+use mathlib.Core.Bool.{true}
 use mathlib.Core.List.{List, _++_, map}
 use lib.ListN.{getD, drop}
 use Rattle.tally.specs.Tally.{span}
+use Rattle.rules.specs.Grid.{cell}
+use Rattle.table.specs.Table.{hasBit, bitOf}
 use Rattle.table.specs.Reading.{readCell}
 use Rattle.slab.specs.Slab.{tableIn}
-use Rattle.slab.specs.Ready.{Ready}
+use Rattle.slab.specs.Ready.{ValueOf, Ready}
 
 -- The mask of a cell as it is written: the digits keep their bits, the blacks move from 8 .. 11 to n - 1 .. n + 2.
 unfoldable pub mask : ℕ → ℕ → ℕ
@@ -14,6 +18,11 @@ mask n m = m % 256 + m / 256 * 2 ^ (n - 1)
 -- The masks of all cells, row by row.
 unfoldable pub published : ℕ → List ℕ → List ℕ
 published n l = map (λ i. mask n (getD l (i / n * 9 + i % n) 0)) (span 0 (n * n))
+
+-- A table is written: the masks of all cells, with no bit that is not a value's.
+pub record PublishedTable (n : ℕ) (l table : List ℕ) : Type 0 where
+  pub masks : table ≡ published n l
+  pub plain : (r c : ℕ) → r < n → c < n → (b : ℕ) → hasBit (cell n table r c) b ≡ true → (v : ℕ) × ValueOf n v × (bitOf n v ≡ b)
 
 -- The mask that is written for the cell of row r and column c; the cell that is.
 abbrev pub maskAt : ℕ → List ℕ → ℕ → ℕ → ℕ

@@ -7,7 +7,7 @@ ghost use lib.ListN.{length};
 ghost use Rattle.table.specs.Reading.{readOff};
 ghost use Rattle.slab.specs.Slab.{tableIn};
 ghost use Rattle.slab.specs.Ready.{Ready};
-ghost use Rattle.written.specs.Published.{maskAt, cellAt, published, rowWritten, CellOf, RowOf};
+ghost use Rattle.written.specs.Published.{maskAt, cellAt, rowWritten, PublishedTable, CellOf, RowOf};
 
 // The mask of a cell as it is written: the digits keep their bits, the blacks move behind them.
 fn read_mask(st: &[u16], n: usize, r: usize, c: usize) -> u16
@@ -32,7 +32,7 @@ fn write_row(st: &[u16], n: usize, r: usize, row: &mut [u16])
 
 pub fn write_candidates(st: &[u16], n: usize, table: &mut [u16])
     requires { ⌜ (Ready n (now st)) × (length (now table) ≡ n * n) ⌝ }
-    ensures { λ _. ⌜ now (table .exit) ≡ published n (now (st .entry)) ⌝ }
+    ensures { λ _. ⌜ PublishedTable n (now (st .entry)) (now (table .exit)) ⌝ }
 {
     let mut r = 0;
     while r < n {

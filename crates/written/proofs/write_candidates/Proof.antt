@@ -5,6 +5,7 @@ use native.Mathlib.Omega.{arith}
 use lib.ListN.{length-take, length-drop}
 use borrow.Author.Needs.{needs}
 use Rattle.written.specs.Published.{maskAt, published}
+use Rattle.written.specs.MaskLaws.{published-whole}
 use Rattle.written.specs.RowLaws.{Rows, rows-start, rows-next, rows-end, row-room}
 use Rattle.written.proofs.write_candidates.Statement.{statement}
 use Rattle.written.proofs.write_candidates.Tie as tie
@@ -65,7 +66,9 @@ same-length c = c .before .loop .inv .1 .size ∙ sym (c .before .before .before
 
 returns : tie.Need-returns Inv-loop μ-loop
 unfolding published
-returns c = rows-end (c .before .loop .inv .1) (omega arith) (c .before .before .before .before .pre .1)
+returns c =
+    let a = c .before .before .before .before in
+    published-whole (a .pre .0) (λ i. c .before .before .before .shared-slice-known .given i .fits) (rows-end (c .before .loop .inv .1) (omega arith) (a .pre .1))
 
 pub write-candidates-spec : {M : Type 1} → statement M
 write-candidates-spec =
