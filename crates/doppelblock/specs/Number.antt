@@ -2,9 +2,17 @@
 use Prim.Native.Nat.{ℕ}
 use mathlib.Core.Path.{_≡_}
 use mathlib.Core.List.{List}
+use Rattle.rules.specs.Grid.{Puzzle}
 use Rattle.rules.specs.Sums.{Sums}
 use Rattle.marking.specs.declared.Marked.{Marked}
 use Rattle.marking.specs.declared.Marked.the-variants.{Refused, Right, Wrong}
+use Rattle.engine.specs.declared.Counted.{Counted}
+use Rattle.engine.specs.declared.Counted.the-variants.{Count}
+use Rattle.engine.specs.declared.Counted.the-variants as counts
+use Rattle.engine.specs.declared.Solved.{Solved}
+use Rattle.engine.specs.declared.Solved.the-variants.{Unsolvable, Unique, Multiple}
+use Rattle.engine.specs.declared.Solved.the-variants as verdicts
+use Rattle.engine.specs.Solve.{SolveGiven}
 
 -- The number and the two target slices are as a definition says.
 pub record SumsGiven (given : Sums) (number : ℕ) (rows columns : List ℕ) : Type 0 where
@@ -17,3 +25,30 @@ abbrev pub sheetNumber : Marked → ℕ
 sheetNumber (Refused k) = k
 sheetNumber Wrong = 100
 sheetNumber Right = 101
+
+-- The number of each answer of Count, and the place of the count afterwards: as it was on a refusal.
+abbrev pub countNumber : Counted → ℕ
+countNumber (counts.Refused k) = k
+countNumber (Count c) = 0
+
+abbrev pub countAfter : Counted → ℕ → ℕ
+countAfter (counts.Refused k) old = old
+countAfter (Count c) old = c
+
+-- The number and the count are those of an answer.
+pub record CountGiven (answer : Counted) (number old new : ℕ) : Type 0 where
+  pub number-is : number ≡ countNumber answer
+  pub count-is : new ≡ countAfter answer old
+
+-- The number of each answer of Solve.
+abbrev pub solveNumber : Solved → ℕ
+solveNumber (verdicts.Refused k) = k
+solveNumber Unsolvable = 100
+solveNumber Unique = 101
+solveNumber Multiple = 102
+
+-- The number and the cells are those of an answer of Solve.
+pub record SolveNumbered (p : Puzzle) (ms : List ℕ) (number : ℕ) (cells cells′ : List ℕ) : Type 0 where
+  pub answer : Solved
+  pub given : SolveGiven p ms answer cells cells′
+  pub number-is : number ≡ solveNumber answer

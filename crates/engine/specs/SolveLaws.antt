@@ -34,7 +34,7 @@ use Rattle.engine.specs.Solve.{solvedAs, SolveGiven, SolveAsk, Found}
 
 -- ---- refusals
 
-marks-numbered : (n : ℕ) (ms : List ℕ) → numbered (markChecks n ms) ≡ true
+pub marks-numbered : (n : ℕ) (ms : List ℕ) → numbered (markChecks n ms) ≡ true
 unfolding numbered join
 marks-numbered n [] = refl
 marks-numbered n (m ∷ ms) = numbered-append (checkMark n m) (markChecks n ms) (mark-numbered n m) (marks-numbered n ms)
@@ -86,14 +86,17 @@ module _ {p : Puzzle} {ms : List ℕ} {len : ℕ} (a : SolveAsk p ms len) where
   unfolding solveChecks
   solve-count = record { accepted = refusal-none-left (countChecks p ms) (checkBuffer (p .size) len ∷ []) (a .accepted) }
 
-  solve-room : len ≡ p .size * p .size
+  pub solve-room : len ≡ p .size * p .size
   unfolding solveChecks countChecks
   solve-room =
       eqb-true len (p .size * p .size) (refusal-none 6 (eqb len (p .size * p .size)) [] (refusal-none-right (countChecks p ms) (checkBuffer (p .size) len ∷ [])
       (numbered-append (puzzleChecks p) (markChecks (p .size) ms) (puzzle-numbered p) (marks-numbered (p .size) ms)) (a .accepted)) .0)
 
+  pub solve-size : Size (p .size)
+  solve-size = size-in (p .size) (accepted p (count-puzzle solve-count) .size-fits)
+
   small : p .size ≤ 9
-  small = size-in (p .size) (accepted p (count-puzzle solve-count) .size-fits) .high
+  small = solve-size .high
 
   pub solve-none : {ws l cells : List ℕ} {ok : Bool} → Prepared p ms ws l ok → ok ≡ false → Found p ms 0 cells cells
   solve-none d e = record { count = count-none solve-count 2 d e; untouched = λ _. refl; written = λ h. absurd (omega arith) }

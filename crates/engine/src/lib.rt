@@ -61,7 +61,7 @@ pub fn count(size: usize, rows: &[u8], columns: &[u8], marks: &[u8], cap: u64) -
 }
 
 // The number that a puzzle, its marks or a cell buffer are refused by, or 0.
-fn solve_refusal(n: usize, rows: &[u8], columns: &[u8], marks: &[u8], len: usize) -> u8
+pub fn solve_refusal(n: usize, rows: &[u8], columns: &[u8], marks: &[u8], len: usize) -> u8
     ensures { λ r. ⌜ r ≡ refusal (solveChecks (puzzle n (now (rows .entry)) (now (columns .entry))) (marksOf (now (marks .entry))) len) ⌝ }
 {
     let k = count_refusal(n, rows, columns, marks);

@@ -1,0 +1,3 @@
+pub mod Remaining
+pub mod SameClosed
+pub mod RemainingLaws

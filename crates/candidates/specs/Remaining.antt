@@ -1,0 +1,53 @@
+-- The answer of Candidates, and what the table that it writes owes. Which candidates remain beyond that, and whether a contradiction is seen, is left
+-- open. Assumes nothing.
+use Prim.Native.Nat.{ℕ, _*_, _<_}
+use mathlib.Core.Path.{_≡_}
+use mathlib.Core.Bool.{Bool, true, false, _&&_, _||_}
+use mathlib.Core.Logic.{_≢_, _⊎_}
+use mathlib.Core.List.{List, List·Memᴰ}
+use lib.ListN.{length}
+use Rattle.rules.specs.Grid.{Puzzle, cell}
+use Rattle.rules.specs.Mark.{rejects, markRow, markColumn, markValue}
+use Rattle.rules.specs.Check.{refusal, solveChecks}
+use Rattle.rules.specs.Number.{number}
+use Rattle.number.specs.VerdictLaws.{Solution}
+use Rattle.table.specs.Table.{Table, everyValue, fits, bitOf, hasBit, tableOf}
+use Rattle.table.specs.Steps.{inRow, inColumn}
+use Rattle.table.specs.Closed.{Closed}
+use Rattle.candidates.specs.declared.Outcome.{Outcome}
+use Rattle.candidates.specs.declared.Outcome.the-variants.{Refused, Contradicted, Written}
+
+-- Two values stand in the same half of a cell; a digit stands in both halves.
+abbrev pub sameHalf : ℕ → ℕ → Bool
+sameHalf v w = (inRow v && inRow w) || (inColumn v && inColumn w)
+
+-- What a table owes a puzzle and marks.
+pub record Remaining (p : Puzzle) (ms : List ℕ) (t : Table) : Type 0 where
+  -- each grid that keeps the puzzle and the marks fits it
+  pub grids : (g : List ℕ) → Solution p ms g → fits (p .size) t g ≡ true
+  -- the four points
+  pub closed : Closed p t
+  -- a rejected candidate is gone
+  pub rejected : (m : ℕ) → List·Memᴰ m ms → rejects m ≡ true → t (markRow m) (markColumn m) (markValue m) ≡ false
+  -- a taken one is there, alone in its half: a digit alone in its cell
+  pub taken : (m : ℕ) → List·Memᴰ m ms → rejects m ≡ false → t (markRow m) (markColumn m) (markValue m) ≡ true
+  pub alone : (m w : ℕ) → List·Memᴰ m ms → rejects m ≡ false → List·Memᴰ w (everyValue (p .size)) → w ≢ markValue m → sameHalf (markValue m) w ≡ true →
+      t (markRow m) (markColumn m) w ≡ false
+
+-- The masks of such a table, row by row, with no bit that is not a value's.
+pub record WrittenTable (p : Puzzle) (ms masks : List ℕ) : Type 0 where
+  pub size : length masks ≡ p .size * p .size
+  pub remaining : Remaining p ms (tableOf (p .size) masks)
+  pub plain : (r c b : ℕ) → r < p .size → c < p .size → hasBit (cell (p .size) masks r c) b ≡ true →
+      (v : ℕ) × List·Memᴰ v (everyValue (p .size)) × (bitOf (p .size) v ≡ b)
+
+-- The answer and the buffer afterwards. On a refusal and on a contradiction the buffer is as it was; there is a contradiction only where no grid is left.
+pub record TableGiven (p : Puzzle) (ms : List ℕ) (answer : Outcome) (table table′ : List ℕ) : Type 0 where
+  pub refused : (refusal (solveChecks p ms (length table)) ≡ 0 → ⊥) → (answer ≡ Refused (refusal (solveChecks p ms (length table)))) × (table′ ≡ table)
+  pub answered : refusal (solveChecks p ms (length table)) ≡ 0 →
+      ((answer ≡ Written) × WrittenTable p ms table′) ⊎ ((answer ≡ Contradicted) × (number p ms ≡ 0) × (table′ ≡ table))
+
+-- Whether the table is written; if not, no grid is left.
+pub record Tabled (p : Puzzle) (ms : List ℕ) (isWritten : Bool) (table table′ : List ℕ) : Type 0 where
+  pub done : isWritten ≡ true → WrittenTable p ms table′
+  pub none : isWritten ≡ false → (number p ms ≡ 0) × (table′ ≡ table)

@@ -1,0 +1,63 @@
+-- The answers of Count under other marks and other caps, by the laws of the number. Assumes nothing.
+use Prim.Native.Nat.{ℕ, _≤_, _<_, min}
+use mathlib.Core.Path.{_≡_, sym, ap, _∙_}
+use mathlib.Core.List.{List, [], _∷_, _++_, List·Permᴰ, List·Memᴰ}
+use native.Mathlib.Omega.{arith}
+use Rattle.rules.specs.Grid.{Puzzle}
+use Rattle.rules.specs.Check.{refusal, countChecks}
+use Rattle.rules.specs.Number.{capped}
+use Rattle.number.specs.NumberLaws.{number-order, number-more, number-repeat}
+use Rattle.number.specs.CapLaws.{capped-rising, capped-steady}
+use Rattle.engine.specs.declared.Counted.{Counted}
+use Rattle.engine.specs.declared.Counted.the-variants.{Count}
+use Rattle.engine.specs.Answer.{counted}
+use Rattle.corollaries.specs.Acceptance.{count-accepted, order-passes, less-passes}
+
+-- The answer of Count, as its contract has it.
+abbrev pub countAnswer : Puzzle → List ℕ → ℕ → Counted
+countAnswer p ms cap = counted (refusal (countChecks p ms)) (capped cap p ms)
+
+-- What is not refused is counted.
+pub answer-counted : (p : Puzzle) (ms : List ℕ) (cap : ℕ) → refusal (countChecks p ms) ≡ 0 → countAnswer p ms cap ≡ Count (capped cap p ms)
+answer-counted p ms cap e = ap (λ k. counted k (capped cap p ms)) e
+
+-- Two answers of accepted input agree if the counts do.
+both-counted : (p : Puzzle) (ms ns : List ℕ) (c d : ℕ) → refusal (countChecks p ms) ≡ 0 → refusal (countChecks p ns) ≡ 0 → capped c p ms ≡ capped d p ns →
+    countAnswer p ms c ≡ countAnswer p ns d
+both-counted p ms ns c d a b e = answer-counted p ms c a ∙ ap Count e ∙ sym (answer-counted p ns d b)
+
+-- ORDER: the same marks in any order give the same answer.
+pub count-order : (p : Puzzle) (ms ns : List ℕ) (cap : ℕ) → List·Permᴰ ms ns → refusal (countChecks p ms) ≡ 0 → countAnswer p ms cap ≡ countAnswer p ns cap
+unfolding capped
+count-order p ms ns cap d e = both-counted p ms ns cap cap e (count-accepted p ms ns (order-passes p d) e) (ap (min cap) (number-order p d))
+
+-- REPEATS: a mark once more gives the same answer.
+pub count-repeat : (p : Puzzle) (m : ℕ) (ms : List ℕ) (cap : ℕ) → List·Memᴰ m ms → refusal (countChecks p (m ∷ ms)) ≡ 0 → countAnswer p (m ∷ ms) cap ≡ countAnswer p ms cap
+unfolding capped
+count-repeat p m ms cap k e =
+    both-counted p (m ∷ ms) ms cap cap e (count-accepted p (m ∷ ms) ms (less-passes p [] m ms) e) (ap (min cap) (number-repeat p k))
+
+-- ONE MARK MORE: it is accepted without the mark too, and the count is not smaller there.
+pub count-more : (p : Puzzle) (ms : List ℕ) (m : ℕ) (ns : List ℕ) (cap : ℕ) → refusal (countChecks p (ms ++ m ∷ ns)) ≡ 0 →
+    (c : ℕ) × (d : ℕ) × (countAnswer p (ms ++ m ∷ ns) cap ≡ Count c) × (countAnswer p (ms ++ ns) cap ≡ Count d) × (c ≤ d)
+unfolding capped
+count-more p ms m ns cap e =
+    let more = number-more p ms m ns in (
+      capped cap p (ms ++ m ∷ ns),
+      capped cap p (ms ++ ns),
+      answer-counted p (ms ++ m ∷ ns) cap e,
+      answer-counted p (ms ++ ns) cap (count-accepted p (ms ++ m ∷ ns) (ms ++ ns) (less-passes p ms m ns) e),
+      omega arith,
+    )
+
+-- A HIGHER CAP: the count is not smaller, and it is the same if it was below its cap.
+pub count-higher : (p : Puzzle) (ms : List ℕ) (cap higher : ℕ) → cap ≤ higher → refusal (countChecks p ms) ≡ 0 →
+    (c : ℕ) × (d : ℕ) × (countAnswer p ms cap ≡ Count c) × (countAnswer p ms higher ≡ Count d) × (c ≤ d) × (c < cap → d ≡ c)
+count-higher p ms cap higher h e = (
+  capped cap p ms,
+  capped higher p ms,
+  answer-counted p ms cap e,
+  answer-counted p ms higher e,
+  capped-rising p ms cap higher h,
+  capped-steady p ms cap higher h,
+)
