@@ -6,10 +6,11 @@ use mathlib.Core.List.{List}
 use native.Mathlib.Omega.{arith}
 use native.Mathlib.Decide.{ℕ-discrete, decLt}
 use lib.ListN.{length, getD, set}
-use lib.Seq.{getD-set-same, getD-set-other}
 use Rattle.bits.specs.Sum.{sum}
 use Rattle.bits.specs.SumLaws.{sum-has, same-yes, same-no}
-use Rattle.slab.specs.Slab.{cand, Sized, Grown}
+use Rattle.live_list.specs.Swap.{exchanged}
+use Rattle.live_list.specs.SwapLaws.{exchanged-here, exchanged-other}
+use Rattle.slab.specs.Slab.{cand, Grown}
 use Rattle.slab.specs.StruckLaws.{grown-trans, grown-sized, grown-gone, set-cand, set-grown}
 use Rattle.words.specs.Word.{Known, wordOf, part}
 use Rattle.words.specs.PatternLaws.{part-lt}
@@ -32,12 +33,15 @@ module _ {n ℓ start stride first i len w : ℕ} {l : List ℕ} (a : RemoveAsk 
   here : ℕ
   here = 1603 + ℓ * 78 + i
 
-  here-low : here < 3007
-  unfolding here
-  here-low = omega (arith, among, remove-bounds .0)
+  last : ℕ
+  last = 1603 + ℓ * 78 + len
+
+  here-low : (here ≤ last) × (last < 3007)
+  unfolding here last
+  here-low = (omega (arith, a .listed), omega (arith, remove-bounds .1, remove-bounds .0))
 
   l₁ : List ℕ
-  l₁ = set l here (live l ℓ len)
+  l₁ = exchanged l here last
 
   f : ℕ → ℕ → ℕ → ℕ
   f p v j = part (blackAt ℓ) (wordOf n (live l ℓ j)) p v
@@ -45,16 +49,26 @@ module _ {n ℓ start stride first i len w : ℕ} {l : List ℕ} (a : RemoveAsk 
   leaving : Known n (live l ℓ i)
   leaving = a .tallied .known i (omega (arith, a .listed))
 
-  sized₁ : Sized l₁
-  unfolding l₁ here
-  sized₁ = grown-sized (set-grown l here (live l ℓ len) (a .ready .sized) (omega arith)) (a .ready .sized)
+  between : Grown l (set l here (live l ℓ len))
+  unfolding here
+  between = set-grown l here (live l ℓ len) (a .ready .sized) (omega arith)
 
-  far : (k : ℕ) → (k ≡ here → ⊥) → getD l₁ k 0 ≡ getD l k 0
+  grown₁ : Grown l l₁
+  unfolding l₁ here last
+  grown₁ = grown-trans between (set-grown (set l here (live l ℓ len)) last (live l ℓ i) (grown-sized between (a .ready .sized)) (omega arith))
+
+  cand₁ : (x v : ℕ) → cand l₁ x v ≡ cand l x v
+  unfolding l₁ here last
+  cand₁ x v =
+      set-cand (set l here (live l ℓ len)) last (live l ℓ i) (grown-sized between (a .ready .sized)) (omega arith) x v
+      ∙ set-cand l here (live l ℓ len) (a .ready .sized) (omega arith) x v
+
+  far : (k : ℕ) → (k ≡ here → ⊥) → (k ≡ last → ⊥) → getD l₁ k 0 ≡ getD l k 0
   unfolding l₁
-  far k d = getD-set-other l here k (live l ℓ len) 0 d
+  far k d e = exchanged-other l here last k d e
 
   support₁ : (y v : ℕ) → support l₁ y v ≡ support l y v
-  support₁ y v = far (3007 + y * 16 + v) (λ e. omega (arith, here-low))
+  support₁ y v = far (3007 + y * 16 + v) (λ e. omega (arith, here-low)) (λ e. omega (arith, here-low))
 
   tally : (p v : ℕ) → p < 9 → v < 16 → support l (ℓ * 9 + p) v ≡ sum 0 (len + 1) (f p v)
   unfolding f
@@ -64,11 +78,10 @@ module _ {n ℓ start stride first i len w : ℕ} {l : List ℕ} (a : RemoveAsk 
   unfolding f
   leaves p v = ap (λ x. part (blackAt ℓ) x p v) (a .word)
 
-  pub remove-kill : KillAsk n ℓ start stride first w (set l (1603 + ℓ * 78 + i) (live l ℓ len))
-  unfolding l₁ here
-  remove-kill =
+  kills : KillAsk n ℓ start stride first w l₁
+  kills =
       record {
-        sized = sized₁;
+        sized = grown-sized grown₁ (a .ready .sized);
         size = a .ready .size;
         placed = a .placed;
         black = a .black;
@@ -83,30 +96,33 @@ module _ {n ℓ start stride first i len w : ℕ} {l : List ℕ} (a : RemoveAsk 
         );
       }
 
-  module _ {l′ : List ℕ} (killed : Sunk (parts ℓ w) (set l (1603 + ℓ * 78 + i) (live l ℓ len)) l′) where
+  pub remove-kill : {l₂ : List ℕ} → l₂ ≡ exchanged l (1603 + ℓ * 78 + i) (1603 + ℓ * 78 + len) → KillAsk n ℓ start stride first w l₂
+  unfolding l₁ here last
+  remove-kill e = subst (KillAsk n ℓ start stride first w) (sym e) kills
+
+  module _ {l₂ l′ : List ℕ} (left : l₂ ≡ exchanged l (1603 + ℓ * 78 + i) (1603 + ℓ * 78 + len)) (killed : Sunk (parts ℓ w) l₂ l′) where
     s : Sunk (parts ℓ w) l₁ l′
-    unfolding l₁ here
-    s = killed
+    unfolding l₁ here last
+    s = subst (λ k. Sunk (parts ℓ w) k l′) left killed
 
     grown : Grown l l′
-    unfolding l₁ here
-    grown = grown-trans (set-grown l here (live l ℓ len) (a .ready .sized) (omega arith)) (s .grown)
+    grown = grown-trans grown₁ (s .grown)
 
-    stay : (k : ℕ) → 973 ≤ k → k < 3007 → (k ≡ here → ⊥) → getD l′ k 0 ≡ getD l k 0
-    stay k p q d = s .rest k p q ∙ far k d
+    stay : (k : ℕ) → 973 ≤ k → k < 3007 → (k ≡ here → ⊥) → (k ≡ last → ⊥) → getD l′ k 0 ≡ getD l k 0
+    stay k p q d e = s .rest k p q ∙ far k d e
 
     falls : (y v : ℕ) → y < 162 → v < 16 → support l′ y v + parts ℓ w y v ≡ support l y v
     falls y v p q = s .falls y v p q ∙ support₁ y v
 
     live-here : live l′ ℓ i ≡ live l ℓ len
-    unfolding here l₁
+    unfolding here last l₁
     live-here =
-        s .rest here (omega arith) here-low
-        ∙ getD-set-same l here (live l ℓ len) 0 (omega (arith, here-low, a .ready .sized .size))
+        s .rest here (omega arith) (omega (arith, here-low))
+        ∙ exchanged-here l here last (omega (arith, here-low, a .ready .sized .size)) (omega (arith, here-low, a .ready .sized .size))
 
-    live-other : (j : ℕ) → j < 78 → (j ≡ i → ⊥) → live l′ ℓ j ≡ live l ℓ j
-    unfolding here
-    live-other j h d = stay (1603 + ℓ * 78 + j) (omega arith) (omega (arith, remove-bounds .0)) (λ e. d (omega arith))
+    live-other : (j : ℕ) → j < len → (j ≡ i → ⊥) → live l′ ℓ j ≡ live l ℓ j
+    unfolding here last
+    live-other j h d = stay (1603 + ℓ * 78 + j) (omega arith) (omega (arith, here-low)) (λ e. d (omega arith)) (λ e. omega arith)
 
     slot-falls : (p v : ℕ) → p < 9 → v < 16 → support l′ (ℓ * 9 + p) v + f p v i ≡ support l (ℓ * 9 + p) v
     slot-falls p v h k =
@@ -127,13 +143,13 @@ module _ {n ℓ start stride first i len w : ℕ} {l : List ℕ} (a : RemoveAsk 
       where
         known : (j : ℕ) → j < len → Dec (j ≡ i) → Known n (live l′ ℓ j)
         known j h (yes e) = subst (Known n) (sym (ap (live l′ ℓ) e ∙ live-here)) (a .tallied .known len (omega arith))
-        known j h (no e) = subst (Known n) (sym (live-other j (omega (arith, remove-bounds .1)) e)) (a .tallied .known j (omega arith))
+        known j h (no e) = subst (Known n) (sym (live-other j h e)) (a .tallied .known j (omega arith))
 
         counts : (p v : ℕ) → p < 9 → v < 16 → support l′ (ℓ * 9 + p) v ≡ sum 0 len (λ (j : ℕ). part (blackAt ℓ) (wordOf n (live l′ ℓ j)) p v)
         counts p v h k =
             let g : ℕ → ℕ = λ j. part (blackAt ℓ) (wordOf n (live l′ ℓ j)) p v in
             let t = sum-drop len (f p v) g i (a .listed) (ap (λ x. part (blackAt ℓ) (wordOf n x) p v) live-here)
-            (λ j b d. ap (λ x. part (blackAt ℓ) (wordOf n x) p v) (live-other j (omega (arith, remove-bounds .1)) d)) in
+            (λ j b d. ap (λ x. part (blackAt ℓ) (wordOf n x) p v) (live-other j b d)) in
             omega (arith, slot-falls p v h k, tally p v h k)
 
         back : (p v : ℕ) → p < n → v < 16 → InHalf (blackAt ℓ) v → support l′ (ℓ * 9 + p) v ≡ 0 → Dec (0 < f p v i) → cand l′ (cellAt ℓ p) v ≡ 0
@@ -147,8 +163,8 @@ module _ {n ℓ start stride first i len w : ℕ} {l : List ℕ} (a : RemoveAsk 
             grown-gone grown (cellAt ℓ p) v k (a .tallied .backed p v h k b (omega (arith, slot-falls p v (omega (arith, a .ready .size .high)) k)))
 
     new-struck : (x v : ℕ) → v < 16 → cand l x v ≡ 1 → cand l′ x v ≡ 0 → UnsupportedIn n ℓ l′ x v
-    unfolding l₁ here cellOf
-    new-struck x v h c e = go (s .only x v h (set-cand l here (live l ℓ len) (a .ready .sized) (omega arith) x v ∙ c) e)
+    unfolding cellOf
+    new-struck x v h c e = go (s .only x v h (cand₁ x v ∙ c) e)
       where
         go : Lost (parts ℓ w) l′ x v → UnsupportedIn n ℓ l′ x v
         go u = line (ℕ-discrete (u .slot / 9) ℓ)
@@ -168,11 +184,11 @@ module _ {n ℓ start stride first i len w : ℕ} {l : List ℕ} (a : RemoveAsk 
                 }
 
     new-within : Within n ℓ l l′
-    unfolding here
+    unfolding here last
     new-within =
         record {
           grown = grown;
-          rest = λ k p q o. stay k p q (⊎-elim (λ b e. omega arith) (λ b e. omega (arith, among)) o);
+          rest = λ k p q o. stay k p q (⊎-elim (λ b e. omega arith) (λ b e. omega (arith, among)) o) (⊎-elim (λ b e. omega arith) (λ b e. omega (arith, remove-bounds .1)) o);
           others = λ y v p q d. omega (arith, falls y v p q, same-no (y / 9) ℓ d);
           sinks = λ y v p q. omega (arith, falls y v p q);
           struck = new-struck;

@@ -38,11 +38,11 @@ pub record Within (n ℓ : ℕ) (l l′ : List ℕ) : Type 0 where
   pub sinks : (y v : ℕ) → y < 162 → v < 16 → support l′ y v ≤ support l y v
   pub struck : (x v : ℕ) → v < 16 → cand l x v ≡ 1 → cand l′ x v ≡ 0 → UnsupportedIn n ℓ l′ x v
 
--- The arrangement at i is gone, and the one at len is in its place.
+-- The arrangement at i is gone, and the one at len is in its place. What stands behind the len that are left is not said.
 pub record Removed (n ℓ i len : ℕ) (l l′ : List ℕ) : Type 0 where
   pub within : Within n ℓ l l′
   pub here : live l′ ℓ i ≡ live l ℓ len
-  pub stays : (j : ℕ) → j < 78 → (j ≡ i → ⊥) → live l′ ℓ j ≡ live l ℓ j
+  pub stays : (j : ℕ) → j < len → (j ≡ i → ⊥) → live l′ ℓ j ≡ live l ℓ j
   pub tallied : Tallied n ℓ len l′
 
 -- ---- the sweep

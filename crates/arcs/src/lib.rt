@@ -93,8 +93,7 @@ fn remove(
     requires { ⌜ RemoveAsk n line start stride first i len w (now st) ⌝ }
     ensures { λ _. ⌜ Removed n line i len (now (st .entry)) (now (st .exit)) ⌝ }
 {
-    let at = Slab::LIVE + line * 78;
-    st[at + i] = st[at + len];
+    live_list::remove(st, Slab::LIVE + line * 78, i, len);
     kill(st, n, line, start, stride, first, w);
 }
 

@@ -1,0 +1,2 @@
+pub mod Swap
+pub mod SwapLaws
