@@ -1,7 +1,8 @@
-/* Target sums and marking from C. It prints the same lines as the Rust example
-   and exits with 1 if the engine answers anything unexpected. */
+/* Target sums, marking, counting and solving from C. It prints the same lines as
+   the Rust example and exits with 1 if the engine answers anything unexpected. */
 #include "doppelblock.h"
 
+#include <inttypes.h>
 #include <stdio.h>
 #include <stdlib.h>
 
@@ -23,7 +24,18 @@ static void print_line(const char *name, const uint8_t *sums, const char *end)
     printf("%s", end);
 }
 
-int main(void)
+/* Rows joined by '/', blacks as '#'. */
+static void print_grid(const uint8_t *cells)
+{
+    for (size_t i = 0; i < CELLS; i++) {
+        if (i > 0 && i % SIZE == 0)
+            putchar('/');
+        putchar(cells[i] == B ? '#' : '0' + cells[i]);
+    }
+    putchar('\n');
+}
+
+static void sums_and_marking(void)
 {
     uint8_t cells[CELLS] = {B, 1, B, 1, B, B, B, B, 1};
     uint8_t rows[SIZE], columns[SIZE];
@@ -46,5 +58,33 @@ int main(void)
     answer = doppelblock_target_sums(SIZE, cells, CELLS, rows, SIZE, columns, SIZE);
     expect("changed sums", answer, DOPPELBLOCK_REFUSED_BLACKS);
     printf("and its sums are refused with %d\n", answer);
+}
+
+static void counting_and_solving(void)
+{
+    const uint8_t rows[SIZE] = {0, 1, 0}, columns[SIZE] = {0, 1, 0};
+    const uint8_t marks[] = {DOPPELBLOCK_REJECT(0, 0, 1)};
+    uint8_t cells[CELLS];
+    uint64_t grids;
+
+    /* Without marks, any address will do. */
+    uint8_t answer = doppelblock_count(SIZE, rows, SIZE, columns, SIZE, marks, 0,
+                                       100, &grids);
+    expect("count", answer, DOPPELBLOCK_DONE);
+    print_line("rows", rows, ", ");
+    print_line("columns", columns, ": ");
+    printf("%" PRIu64 " grids\n", grids);
+
+    answer = doppelblock_solve(SIZE, rows, SIZE, columns, SIZE, marks,
+                               sizeof marks, cells, CELLS);
+    expect("solve", answer, DOPPELBLOCK_UNIQUE);
+    printf("one without a 1 in its first cell: ");
+    print_grid(cells);
+}
+
+int main(void)
+{
+    sums_and_marking();
+    counting_and_solving();
     return 0;
 }

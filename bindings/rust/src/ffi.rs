@@ -24,6 +24,42 @@ unsafe extern "C" {
         cells: *const u8,
         cells_len: usize,
     ) -> u8;
+
+    fn doppelblock_count(
+        size: usize,
+        rows: *const u8,
+        rows_len: usize,
+        columns: *const u8,
+        columns_len: usize,
+        marks: *const u8,
+        marks_len: usize,
+        cap: u64,
+        count: *mut u64,
+    ) -> u8;
+
+    fn doppelblock_solve(
+        size: usize,
+        rows: *const u8,
+        rows_len: usize,
+        columns: *const u8,
+        columns_len: usize,
+        marks: *const u8,
+        marks_len: usize,
+        cells: *mut u8,
+        cells_len: usize,
+    ) -> u8;
+
+    fn doppelblock_candidates(
+        size: usize,
+        rows: *const u8,
+        rows_len: usize,
+        columns: *const u8,
+        columns_len: usize,
+        marks: *const u8,
+        marks_len: usize,
+        table: *mut u8,
+        table_len: usize,
+    ) -> u8;
 }
 
 pub fn target_sums(size: usize, cells: &[u8], rows: &mut [u8], columns: &mut [u8]) -> u8 {
@@ -53,6 +89,75 @@ pub fn mark_sheet(size: usize, rows: &[u8], columns: &[u8], cells: &[u8]) -> u8 
             columns.len(),
             cells.as_ptr(),
             cells.len(),
+        )
+    }
+}
+
+pub fn count(
+    size: usize,
+    rows: &[u8],
+    columns: &[u8],
+    marks: &[u8],
+    cap: u64,
+    count: &mut u64,
+) -> u8 {
+    // SAFETY: as for the target sums; the count is one number that may be written.
+    unsafe {
+        doppelblock_count(
+            size,
+            rows.as_ptr(),
+            rows.len(),
+            columns.as_ptr(),
+            columns.len(),
+            marks.as_ptr(),
+            marks.len(),
+            cap,
+            count,
+        )
+    }
+}
+
+pub fn solve(size: usize, rows: &[u8], columns: &[u8], marks: &[u8], cells: &mut [u8]) -> u8 {
+    into_bytes(doppelblock_solve, size, rows, columns, marks, cells)
+}
+
+pub fn candidates(size: usize, rows: &[u8], columns: &[u8], marks: &[u8], table: &mut [u8]) -> u8 {
+    into_bytes(doppelblock_candidates, size, rows, columns, marks, table)
+}
+
+/// Puzzle and marks in, bytes out: the signature of solve and of candidates.
+type IntoBytes = unsafe extern "C" fn(
+    usize,
+    *const u8,
+    usize,
+    *const u8,
+    usize,
+    *const u8,
+    usize,
+    *mut u8,
+    usize,
+) -> u8;
+
+fn into_bytes(
+    call: IntoBytes,
+    size: usize,
+    rows: &[u8],
+    columns: &[u8],
+    marks: &[u8],
+    bytes: &mut [u8],
+) -> u8 {
+    // SAFETY: as for the target sums.
+    unsafe {
+        call(
+            size,
+            rows.as_ptr(),
+            rows.len(),
+            columns.as_ptr(),
+            columns.len(),
+            marks.as_ptr(),
+            marks.len(),
+            bytes.as_mut_ptr(),
+            bytes.len(),
         )
     }
 }

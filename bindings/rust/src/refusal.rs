@@ -12,7 +12,13 @@ pub enum Refusal {
     TargetLengths = 2,
     /// A target is greater than any sum of this size.
     Target = 3,
-    /// Not one byte for each cell.
+    /// The spare bits of a mark are not zero, or half of it is missing.
+    MarkSpare = 4,
+    /// The row or the column of a mark is outside the grid.
+    MarkPlace = 5,
+    /// The value of a mark is neither a digit of this size nor a black.
+    MarkValue = 6,
+    /// Not one byte for each cell, or not two bytes for each in a table.
     CellsLength = 7,
     /// A line does not have exactly two black cells.
     Blacks = 8,
@@ -24,10 +30,13 @@ pub enum Refusal {
 
 impl Refusal {
     /// Every refusal, by rising number.
-    pub const ALL: [Refusal; 7] = [
+    pub const ALL: [Refusal; 10] = [
         Refusal::Size,
         Refusal::TargetLengths,
         Refusal::Target,
+        Refusal::MarkSpare,
+        Refusal::MarkPlace,
+        Refusal::MarkValue,
         Refusal::CellsLength,
         Refusal::Blacks,
         Refusal::EmptyCell,
@@ -51,6 +60,9 @@ impl Refusal {
             Refusal::Size => "the size must be 2 to 9",
             Refusal::TargetLengths => "each row and each column needs exactly one target",
             Refusal::Target => "a target is greater than the digits of this size allow",
+            Refusal::MarkSpare => "a mark has spare bits that are not zero, or is cut in half",
+            Refusal::MarkPlace => "a mark names a row or column outside the grid",
+            Refusal::MarkValue => "a mark names a value that this size does not have",
             Refusal::CellsLength => "each cell of the grid needs exactly one entry",
             Refusal::Blacks => "a row or column does not have exactly two black cells",
             Refusal::EmptyCell => "a cell between two blacks is empty",

@@ -1,8 +1,11 @@
 //! The wrappers against the linked library.
 
-use doppelblock::{BLACK as B, Refusal, Sheet, mark_sheet, target_sums};
+use doppelblock::{
+    BLACK as B, Candidates, LEFT_BLACK, LOWER_BLACK, Mark, RIGHT_BLACK, Refusal, Sheet,
+    UPPER_BLACK, Verdict, candidates, count, count_into, mark_sheet, solve, target_sums,
+};
 
-#[path = "../examples/sums.rs"]
+#[path = "../examples/puzzle.rs"]
 mod example;
 
 const GOOD: [u8; 9] = [B, 1, B, 1, B, B, B, B, 1];
@@ -54,6 +57,138 @@ fn sheets_are_marked() {
         marked(&[1, 0, 0], &[1, 0, 0], &[]),
         Err(Refusal::CellsLength)
     );
+}
+
+/// The puzzle of document 01 with two grids.
+const TWO: ([u8; 3], [u8; 3]) = ([0, 1, 0], [0, 1, 0]);
+
+fn count_two(marks: &[u8], cap: u64) -> Result<u64, Refusal> {
+    count(3, &TWO.0, &TWO.1, marks, cap)
+}
+
+#[test]
+fn a_count_stops_at_its_cap() {
+    for (cap, expected) in [(0, 0), (1, 1), (2, 2), (3, 2), (u64::MAX, 2)] {
+        assert_eq!(count_two(&[], cap), Ok(expected));
+    }
+    assert_eq!(count(3, &[1, 0, 0], &[1, 0, 0], &[], 2), Ok(1));
+    assert_eq!(count(3, &[1, 1, 0], &[0, 1, 0], &[], 2), Ok(0));
+    assert_eq!(count(2, &[0; 2], &[0; 2], &[], 2), Ok(1));
+    assert_eq!(count(4, &[3; 4], &[0; 4], &[], 2), Ok(0));
+}
+
+#[test]
+fn marks_narrow_a_count() {
+    for (marks, expected) in [
+        (&[0x00, 0x08][..], 1),
+        (&[0x80, 0x08], 1),
+        (&[0x00, 0x08, 0x00, 0x08], 1),
+        (&[0x00, 0x08, 0x80, 0x08], 0),
+        (&[0x00, 0x08, 0x01, 0x08], 0),
+    ] {
+        assert_eq!(count_two(marks, 2), Ok(expected), "marks {marks:02x?}");
+    }
+}
+
+#[test]
+fn a_refused_count_is_not_written() {
+    let refused = |size, rows: &[u8], marks: &[u8]| {
+        let mut number = 77;
+        let refusal = count_into(size, rows, &[0, 1, 0], marks, 5, &mut number).unwrap_err();
+        assert_eq!(number, 77);
+        refusal
+    };
+    assert_eq!(refused(10, &[9], &[7]), Refusal::Size);
+    assert_eq!(refused(3, &[9], &[7]), Refusal::TargetLengths);
+    assert_eq!(refused(3, &[0, 2, 0], &[7]), Refusal::Target);
+    assert_eq!(refused(3, &[0; 3], &[0x7F, 0xF9]), Refusal::MarkSpare);
+    assert_eq!(refused(3, &[0; 3], &[0x7F, 0xF8]), Refusal::MarkPlace);
+    assert_eq!(refused(3, &[0; 3], &[0x00, 0x10]), Refusal::MarkValue);
+    // Half a mark comes in its turn, after the value that size 3 does not have.
+    assert_eq!(refused(3, &[0; 3], &[0x00, 0x08, 0x00]), Refusal::MarkSpare);
+    assert_eq!(refused(3, &[0; 3], &[0x00, 0x10, 0x00]), Refusal::MarkValue);
+}
+
+#[test]
+fn the_first_grid_is_written() {
+    let solved = |rows: &[u8], columns: &[u8], marks: &[Mark]| {
+        let mut cells = [9; 9];
+        let verdict = solve(3, rows, columns, &Mark::list(marks), &mut cells);
+        (verdict.expect("nothing is refused"), cells)
+    };
+    assert_eq!(solved(&[1, 0, 0], &[1, 0, 0], &[]), (Verdict::Unique, GOOD));
+    assert_eq!(
+        solved(&TWO.0, &TWO.1, &[]),
+        (Verdict::Multiple, [1, B, B, B, 1, B, B, B, 1])
+    );
+    assert_eq!(
+        solved(&TWO.0, &TWO.1, &[Mark::reject(2, 2, 1)]),
+        (Verdict::Unique, [B, B, 1, B, 1, B, 1, B, B])
+    );
+    assert_eq!(
+        solved(&[1, 1, 0], &[0, 1, 0], &[]),
+        (Verdict::Unsolvable, [9; 9])
+    );
+}
+
+#[test]
+fn buffers_of_another_length_are_refused_last() {
+    let refused = |rows: &[u8], marks: &[u8]| {
+        let (mut cells, mut table) = ([9; 10], [9; 17]);
+        let refusal = solve(3, rows, &[0; 3], marks, &mut cells).unwrap_err();
+        let same = candidates(3, rows, &[0; 3], marks, &mut table).unwrap_err();
+        assert_eq!((cells, table, same), ([9; 10], [9; 17], refusal));
+        refusal
+    };
+    assert_eq!(refused(&[0; 2], &[]), Refusal::TargetLengths);
+    assert_eq!(refused(&[0; 3], &[0]), Refusal::MarkSpare);
+    assert_eq!(refused(&[0; 3], &[0x00, 0x08]), Refusal::CellsLength);
+}
+
+#[test]
+fn candidates_are_written_or_contradicted() {
+    let mut table = [9; 18];
+    let written = candidates(3, &[1, 0, 0], &[1, 0, 0], &[], &mut table);
+    assert_eq!(written, Ok(Candidates::Written));
+    // Left and right row black are the bits 2 and 3, upper and lower column
+    // black the bits 4 and 5.
+    let entries: Vec<u8> = table.chunks_exact(2).map(|entry| entry[1]).collect();
+    assert_eq!(entries, [20, 2, 24, 2, 20, 40, 36, 40, 2]);
+    assert!(table.chunks_exact(2).all(|entry| entry[0] == 0));
+
+    let before = table;
+    let marks = Mark::list(&[Mark::take(0, 0, 1)]);
+    let contradicted = candidates(3, &[1, 0, 0], &[1, 0, 0], &marks, &mut table);
+    assert_eq!(contradicted, Ok(Candidates::Contradicted));
+    assert_eq!(table, before);
+}
+
+#[test]
+fn blacks_use_the_high_byte_at_size_9() {
+    let mut table = [0; 162];
+    let written = candidates(9, &[12; 9], &[12; 9], &[], &mut table);
+    assert_eq!(written, Ok(Candidates::Written));
+    let entry = |place: usize| u16::from_be_bytes([table[2 * place], table[2 * place + 1]]);
+    // The first cell of a row can be its left black (bit 8), not its right one.
+    assert_eq!(entry(0) >> 8 & 3, 1);
+    assert_eq!(entry(80) >> 8 & 3, 2);
+}
+
+#[test]
+fn marks_are_packed_as_document_01_says() {
+    let bytes = |mark: Mark| u16::from_be_bytes(mark.to_bytes());
+    assert_eq!(bytes(Mark::take(0, 0, 1)), 0x0008);
+    assert_eq!(bytes(Mark::reject(0, 0, 1)), 0x8008);
+    assert_eq!(bytes(Mark::take(0, 2, 1)), 0x0108);
+    assert_eq!(bytes(Mark::take(1, 1, LEFT_BLACK)), 0x08C0);
+    assert_eq!(bytes(Mark::reject(15, 15, 15)), 0xFFF8);
+    assert_eq!([RIGHT_BLACK, UPPER_BLACK, LOWER_BLACK], [9, 10, 11]);
+}
+
+#[test]
+#[should_panic(expected = "four bits each")]
+fn a_mark_has_no_room_for_row_16() {
+    Mark::take(16, 0, 1);
 }
 
 #[test]

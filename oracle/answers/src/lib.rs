@@ -4,8 +4,12 @@
 //! Every answer comes from the published Rust. The rules give the refusals that
 //! the Rust does not have, and decide where docs/DIFFERENCES.md lets them differ.
 
+mod candidates;
+mod count;
 mod marking;
 mod record;
+mod searching;
+mod solve;
 mod sums;
 
 pub use record::{Read, Record, read};
@@ -15,16 +19,29 @@ pub use record::{Read, Record, read};
 pub enum Call {
     TargetSums,
     MarkSheet,
+    Candidates,
+    Count,
+    Solve,
 }
 
 impl Call {
-    pub const ALL: [Call; 2] = [Call::TargetSums, Call::MarkSheet];
+    /// In the order of their tags.
+    pub const ALL: [Call; 5] = [
+        Call::TargetSums,
+        Call::MarkSheet,
+        Call::Candidates,
+        Call::Count,
+        Call::Solve,
+    ];
 
     /// The word that chooses this call on the command line.
     pub fn named(word: &str) -> Option<Call> {
         match word {
             "sums" => Some(Call::TargetSums),
             "marking" => Some(Call::MarkSheet),
+            "candidates" => Some(Call::Candidates),
+            "count" => Some(Call::Count),
+            "solve" => Some(Call::Solve),
             _ => None,
         }
     }
@@ -34,14 +51,18 @@ impl Call {
         match self {
             Call::TargetSums => 1,
             Call::MarkSheet => 2,
+            Call::Candidates => 3,
+            Call::Count => 4,
+            Call::Solve => 5,
         }
     }
 
     /// The number of fields in its records.
     pub fn fields(self) -> usize {
         match self {
-            Call::TargetSums => 7,
+            Call::TargetSums | Call::Candidates | Call::Solve => 7,
             Call::MarkSheet => 5,
+            Call::Count => 8,
         }
     }
 
@@ -50,6 +71,9 @@ impl Call {
         match self {
             Call::TargetSums => sums::records(),
             Call::MarkSheet => marking::records(),
+            Call::Candidates => candidates::records(),
+            Call::Count => count::records(),
+            Call::Solve => solve::records(),
         }
     }
 }

@@ -1,12 +1,12 @@
-//! `answers FILE [sums] [marking]`: writes the records of the named calls, or of
-//! all calls.
+//! `answers FILE [CALL]...`: writes the records of the named calls, or of all
+//! calls.
 
 use std::process::ExitCode;
 use std::{env, fs};
 
 use answers::Call;
 
-const USAGE: &str = "usage: answers FILE [sums] [marking]";
+const USAGE: &str = "usage: answers FILE [sums] [marking] [candidates] [count] [solve]";
 
 fn main() -> ExitCode {
     let mut words = env::args().skip(1);

@@ -1,3 +1,7 @@
+use std::collections::{HashMap, HashSet};
+
+use inputs::SeededRng;
+
 use crate::Call;
 
 /// One record: the tag of its call, then its fields, each behind its length in
@@ -28,6 +32,32 @@ impl Record {
     pub fn bytes(&self) -> &[u8] {
         &self.bytes
     }
+}
+
+/// What a buffer holds before the call.
+pub fn pattern(length: usize) -> Vec<u8> {
+    (0..length).map(|place| (0xA0 + place) as u8).collect()
+}
+
+/// Different records of each kind, up to so many; a kind that is met less often
+/// gives fewer.
+pub fn of_each_kind(
+    rng: &mut SeededRng,
+    draws: usize,
+    most: usize,
+    draw: impl Fn(&mut SeededRng) -> Option<(u8, Record)>,
+) -> Vec<Record> {
+    let mut taken: HashMap<u8, usize> = HashMap::new();
+    let mut seen = HashSet::new();
+    let mut records = Vec::new();
+    for (kind, record) in (0..draws).filter_map(|_| draw(rng)) {
+        let taken = taken.entry(kind).or_default();
+        if *taken < most && seen.insert(record.clone()) {
+            *taken += 1;
+            records.push(record);
+        }
+    }
+    records
 }
 
 /// A record that was read back.

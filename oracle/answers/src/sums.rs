@@ -1,11 +1,10 @@
 //! Fields: size, cells, rows before, columns before, answer, rows after,
 //! columns after.
 
-use std::collections::HashSet;
-
 use inputs::{Rng, SeededRng};
 use rules::BLACK;
 
+use crate::record::{of_each_kind, pattern};
 use crate::{Call, Record};
 
 /// For each size and each answer; a size that has fewer gives fewer.
@@ -27,20 +26,10 @@ pub fn records() -> Vec<Record> {
 /// The same number of records for each answer, as far as they are met.
 fn drawn(size: usize) -> Vec<Record> {
     let mut rng = SeededRng::new(1000 + size as u64);
-    let mut seen = HashSet::new();
-    let mut kinds = [(0, 0), (8, 0), (9, 0), (10, 0)];
-    let mut records = Vec::new();
-    for _ in 0..DRAWS {
-        let cells = any_cells(&mut rng, size);
-        let number = answer(size, &cells);
-        let kind = kinds.iter_mut().find(|(kind, _)| *kind == number);
-        let (_, taken) = kind.expect("one of the four answers");
-        if *taken < OF_EACH_KIND && seen.insert(cells.clone()) {
-            *taken += 1;
-            records.push(record(size, &cells, size, size));
-        }
-    }
-    records
+    of_each_kind(&mut rng, DRAWS, OF_EACH_KIND, |rng| {
+        let cells = any_cells(rng, size);
+        Some((answer(size, &cells), record(size, &cells, size, size)))
+    })
 }
 
 fn any_cells(rng: &mut SeededRng, size: usize) -> Vec<u8> {
@@ -112,8 +101,7 @@ fn refused() -> Vec<Record> {
 }
 
 fn record(size: usize, cells: &[u8], rows_len: usize, columns_len: usize) -> Record {
-    let before = |length: usize| (0..length).map(|i| 0xA0 + i as u8).collect::<Vec<u8>>();
-    let (rows, columns) = (before(rows_len), before(columns_len));
+    let (rows, columns) = (pattern(rows_len), pattern(columns_len));
     let answer = rules::target_sums(size, cells, rows_len, columns_len);
     let number = answer.as_ref().err().copied().unwrap_or(0);
     let (rows_after, columns_after) = answer.unwrap_or((rows.clone(), columns.clone()));

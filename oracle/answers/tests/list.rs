@@ -95,3 +95,83 @@ fn marking_has_every_answer() {
         }
     }
 }
+
+/// Each call with the place of its answer among the fields.
+#[test]
+fn searching_calls_have_every_answer_of_every_size() {
+    let calls = [
+        (Call::Candidates, 5, vec![0, 2, 3, 4, 5, 6, 7, 100]),
+        (Call::Count, 6, vec![0, 2, 3, 4, 5, 6]),
+        (Call::Solve, 5, vec![2, 3, 4, 5, 6, 7, 100, 101, 102]),
+    ];
+    for (call, answer, numbers) in calls {
+        let list = list(call);
+        let records = fields(call, &list);
+        assert!((100..=170).contains(&records.len()), "{call:?}");
+        let times = answers(&records, answer);
+        for size in 2..=9 {
+            for &number in &numbers {
+                // Size 2 has only one grid.
+                let never = size == 2 && number == 102;
+                let is_there = times.contains_key(&(size, number));
+                assert_eq!(is_there, !never, "{call:?}, {size}: {number}");
+            }
+        }
+        for size in [0, 1, 10, 255] {
+            assert_eq!(times.get(&(size, 1)), Some(&1));
+        }
+    }
+}
+
+/// Before and after stand around the answer.
+#[test]
+fn searching_calls_write_only_with_their_answer() {
+    for (call, answer, writing) in [
+        (Call::Candidates, 5, vec![0]),
+        (Call::Count, 6, vec![0]),
+        (Call::Solve, 5, vec![101, 102]),
+    ] {
+        let list = list(call);
+        for fields in fields(call, &list) {
+            let [before, [number], after] = fields[answer - 1..] else {
+                panic!("the answer is one byte, and one field follows");
+            };
+            assert_eq!(before.len(), after.len());
+            assert_eq!(before != after, writing.contains(number), "{fields:02x?}");
+        }
+    }
+}
+
+#[test]
+fn counts_reach_their_cap_and_stay_below_it() {
+    let list = list(Call::Count);
+    let number = |bytes: &[u8]| u64::from_be_bytes(bytes.try_into().expect("eight bytes"));
+    let mut kinds = HashSet::new();
+    for fields in fields(Call::Count, &list) {
+        if fields[6] == [0] {
+            let (cap, count) = (number(fields[4]), number(fields[7]));
+            assert!(count <= cap);
+            kinds.insert((cap.min(4), count.min(4)));
+        }
+    }
+    let every = [
+        (0, 0),
+        (1, 0),
+        (1, 1),
+        (2, 0),
+        (2, 1),
+        (2, 2),
+        (3, 2),
+        (3, 3),
+        (4, 1),
+        (4, 4),
+    ];
+    assert!(every.iter().all(|kind| kinds.contains(kind)), "{kinds:?}");
+}
+
+/// The replay has room for 131,072 bytes.
+#[test]
+fn the_whole_list_has_room() {
+    let lengths = Call::ALL.map(|call| list(call).len());
+    assert!(lengths.iter().sum::<usize>() < 131_072, "{lengths:?}");
+}

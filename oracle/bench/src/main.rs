@@ -1,27 +1,32 @@
-//! `bench [ROUNDS]` times all calls; `bench choose` prints the size 9 list.
-//!
-//! A searching call joins with a module beside `sums` that makes pairs of
-//! `puzzles::timed(6)`, `(8)` and `(9)`, and a line in `main`.
+//! `bench [ROUNDS]` times all calls; `bench choose` prints the size 9 list;
+//! `bench stack` measures the stack of the calls that search.
 
 mod measure;
 mod puzzles;
+mod searching;
+mod stack;
 mod sums;
 
 use std::env;
 use std::process::ExitCode;
 
-const USAGE: &str = "usage: bench [ROUNDS] | bench choose";
+const USAGE: &str = "usage: bench [ROUNDS] | bench choose | bench stack";
 
 fn main() -> ExitCode {
     let word = env::args().nth(1).unwrap_or_else(|| "9".to_string());
-    if word == "choose" {
-        puzzles::choose();
-        return ExitCode::SUCCESS;
+    match (word.as_str(), word.parse()) {
+        ("choose", _) => puzzles::choose(),
+        ("stack", _) => stack::run(&puzzles::deep()),
+        (_, Ok(rounds @ 1..)) => time_all(rounds),
+        _ => {
+            eprintln!("{USAGE}");
+            return ExitCode::from(2);
+        }
     }
-    let Some(rounds) = word.parse().ok().filter(|&rounds: &usize| rounds > 0) else {
-        eprintln!("{USAGE}");
-        return ExitCode::from(2);
-    };
+    ExitCode::SUCCESS
+}
+
+fn time_all(rounds: usize) {
     let checked = if reference::overflow_is_checked() {
         "on"
     } else {
@@ -29,5 +34,5 @@ fn main() -> ExitCode {
     };
     println!("The Rust is built with overflow checks {checked}.\n");
     sums::run(rounds);
-    ExitCode::SUCCESS
+    searching::run(rounds);
 }

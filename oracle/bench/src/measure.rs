@@ -2,10 +2,11 @@
 
 use std::time::Instant;
 
-/// One input on both sides. Each side runs the call once.
+/// One input on both sides. Each side runs the call once and gives a number that
+/// has to be the same on both.
 pub struct Pair<'a> {
-    pub engine: Box<dyn FnMut() + 'a>,
-    pub rust: Box<dyn FnMut() + 'a>,
+    pub engine: Box<dyn FnMut() -> u64 + 'a>,
+    pub rust: Box<dyn FnMut() -> u64 + 'a>,
 }
 
 /// Nanoseconds for one call on one input.
@@ -45,23 +46,26 @@ pub fn measure(title: &str, pairs: &mut [Pair], effort: Effort) {
 }
 
 fn paired(pair: &mut Pair, effort: Effort, engine_first: bool) -> Times {
-    if engine_first {
+    let ((engine, by_engine), (rust, by_rust)) = if engine_first {
         let engine = timed(&mut pair.engine, effort.repeats);
-        let rust = timed(&mut pair.rust, effort.repeats);
-        Times { engine, rust }
+        (engine, timed(&mut pair.rust, effort.repeats))
     } else {
         let rust = timed(&mut pair.rust, effort.repeats);
-        let engine = timed(&mut pair.engine, effort.repeats);
-        Times { engine, rust }
-    }
+        (timed(&mut pair.engine, effort.repeats), rust)
+    };
+    assert_eq!(by_engine, by_rust, "the sides differ: run compare");
+    Times { engine, rust }
 }
 
-fn timed(call: &mut dyn FnMut(), repeats: u32) -> f64 {
+/// The time of one call, and what the last one gave.
+fn timed(call: &mut dyn FnMut() -> u64, repeats: u32) -> (f64, u64) {
     let start = Instant::now();
+    let mut given = 0;
     for _ in 0..repeats {
-        call();
+        given = call();
     }
-    start.elapsed().as_nanos() as f64 / f64::from(repeats)
+    let nanoseconds = start.elapsed().as_nanos() as f64;
+    (nanoseconds / f64::from(repeats), given)
 }
 
 fn print(title: &str, rounds: &[Vec<Times>]) {

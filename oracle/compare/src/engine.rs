@@ -1,12 +1,24 @@
 //! What is held to the rules: the linked library, or a faulty stand-in by which
 //! the tests see that faults are found.
 
-use doppelblock::Sheet;
+use doppelblock::{Candidates, Sheet, Verdict};
+
+/// What a searching call is asked: a puzzle and the bytes of its marks.
+#[derive(Clone, Copy, Debug)]
+pub struct Question<'a> {
+    pub size: usize,
+    pub rows: &'a [u8],
+    pub columns: &'a [u8],
+    pub marks: &'a [u8],
+}
 
 /// The exported calls, each answering with the number that the library returns.
 pub trait Engine {
     fn target_sums(&self, size: usize, cells: &[u8], rows: &mut [u8], columns: &mut [u8]) -> u8;
     fn mark_sheet(&self, size: usize, rows: &[u8], columns: &[u8], cells: &[u8]) -> u8;
+    fn count(&self, asked: Question, cap: u64, count: &mut u64) -> u8;
+    fn solve(&self, asked: Question, cells: &mut [u8]) -> u8;
+    fn candidates(&self, asked: Question, table: &mut [u8]) -> u8;
 }
 
 /// The library, called as its users call it.
@@ -24,6 +36,33 @@ impl Engine for Linked {
         match doppelblock::mark_sheet(size, rows, columns, cells) {
             Ok(Sheet::Wrong) => 100,
             Ok(Sheet::Right) => 101,
+            Err(refusal) => refusal.number(),
+        }
+    }
+
+    fn count(&self, asked: Question, cap: u64, count: &mut u64) -> u8 {
+        let (rows, columns, marks) = (asked.rows, asked.columns, asked.marks);
+        match doppelblock::count_into(asked.size, rows, columns, marks, cap, count) {
+            Ok(()) => 0,
+            Err(refusal) => refusal.number(),
+        }
+    }
+
+    fn solve(&self, asked: Question, cells: &mut [u8]) -> u8 {
+        let (rows, columns, marks) = (asked.rows, asked.columns, asked.marks);
+        match doppelblock::solve(asked.size, rows, columns, marks, cells) {
+            Ok(Verdict::Unsolvable) => 100,
+            Ok(Verdict::Unique) => 101,
+            Ok(Verdict::Multiple) => 102,
+            Err(refusal) => refusal.number(),
+        }
+    }
+
+    fn candidates(&self, asked: Question, table: &mut [u8]) -> u8 {
+        let (rows, columns, marks) = (asked.rows, asked.columns, asked.marks);
+        match doppelblock::candidates(asked.size, rows, columns, marks, table) {
+            Ok(Candidates::Written) => 0,
+            Ok(Candidates::Contradicted) => 100,
             Err(refusal) => refusal.number(),
         }
     }

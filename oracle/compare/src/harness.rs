@@ -12,6 +12,23 @@ use crate::engine::Engine;
 /// What an answer was, for the table at the end.
 pub type Label = &'static str;
 
+/// The label of a refusal.
+pub fn refused(number: u8) -> Label {
+    const LABELS: [Label; 10] = [
+        "refused 1",
+        "refused 2",
+        "refused 3",
+        "refused 4",
+        "refused 5",
+        "refused 6",
+        "refused 7",
+        "refused 8",
+        "refused 9",
+        "refused 10",
+    ];
+    LABELS[usize::from(number) - 1]
+}
+
 /// A call under comparison.
 pub trait Call {
     type Input: Clone + Display;

@@ -7,7 +7,7 @@ use rules::{BLACK, EMPTY};
 
 use crate::engine::Engine;
 use crate::guarded::Guarded;
-use crate::harness::{Call, Family, Label};
+use crate::harness::{Call, Family, Label, refused};
 use crate::simpler;
 
 pub struct MarkSheet;
@@ -77,15 +77,14 @@ impl Call for MarkSheet {
 
     fn simpler(input: &Input) -> Vec<Input> {
         let mut simpler = smaller_sizes(input);
-        simpler.extend(shorter(input));
-        for slice in [cells_of, rows_of, columns_of] {
-            let list = slice(&mut input.clone()).clone();
-            simpler.extend(simpler::lowered(&list).map(|lower| {
-                let mut input = input.clone();
-                *slice(&mut input) = lower;
-                input
-            }));
+        if input.size > 10 {
+            simpler.push(Input {
+                size: 10,
+                ..input.clone()
+            });
         }
+        simpler.extend(simpler::cut(input, LISTS));
+        simpler.extend(simpler::lowered_in(input, LISTS));
         simpler
     }
 }
@@ -94,10 +93,7 @@ fn label(rules: Result<bool, u8>) -> Label {
     match rules {
         Ok(true) => "right",
         Ok(false) => "wrong",
-        Err(1) => "refused 1",
-        Err(2) => "refused 2",
-        Err(3) => "refused 3",
-        Err(_) => "refused 7",
+        Err(number) => refused(number),
     }
 }
 
@@ -299,47 +295,18 @@ fn smaller_sizes(input: &Input) -> Vec<Input> {
     if !(3..=9).contains(&size) || !whole || input.cells.len() != size * size {
         return Vec::new();
     }
-    let without = |line: &[u8], place: usize| {
-        let mut line = line.to_vec();
-        line.remove(place);
-        line
-    };
     (0..size * size)
         .map(|place| Input {
             size: size - 1,
-            rows: without(&input.rows, place / size),
-            columns: without(&input.columns, place % size),
+            rows: simpler::line_without(&input.rows, place / size),
+            columns: simpler::line_without(&input.columns, place % size),
             cells: simpler::without(size, &input.cells, place / size, place % size),
         })
         .collect()
 }
 
-/// The input with one of its slices cut, and with the least size above 9.
-fn shorter(input: &Input) -> Vec<Input> {
-    let mut shorter = Vec::new();
-    if input.size > 10 {
-        shorter.push(Input {
-            size: 10,
-            ..input.clone()
-        });
-    }
-    for slice in [rows_of, columns_of, cells_of] {
-        let mut input = input.clone();
-        if slice(&mut input).pop().is_some() {
-            shorter.push(input);
-        }
-    }
-    shorter
-}
-
-fn rows_of(input: &mut Input) -> &mut Vec<u8> {
-    &mut input.rows
-}
-
-fn columns_of(input: &mut Input) -> &mut Vec<u8> {
-    &mut input.columns
-}
-
-fn cells_of(input: &mut Input) -> &mut Vec<u8> {
-    &mut input.cells
-}
+const LISTS: [simpler::List<Input>; 3] = [
+    |input| &mut input.cells,
+    |input| &mut input.rows,
+    |input| &mut input.columns,
+];

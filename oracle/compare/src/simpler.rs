@@ -8,6 +8,41 @@ pub fn without(size: usize, cells: &[u8], row: usize, column: usize) -> Vec<u8> 
         .collect()
 }
 
+/// The targets without one of them.
+pub fn line_without(targets: &[u8], place: usize) -> Vec<u8> {
+    let mut targets = targets.to_vec();
+    targets.remove(place);
+    targets
+}
+
+/// One of the lists in an input.
+pub type List<I> = fn(&mut I) -> &mut Vec<u8>;
+
+/// The input with the last entry of one of its lists gone.
+pub fn cut<I: Clone, const L: usize>(input: &I, lists: [List<I>; L]) -> Vec<I> {
+    let mut simpler = Vec::new();
+    for list in lists {
+        let mut input = input.clone();
+        if list(&mut input).pop().is_some() {
+            simpler.push(input);
+        }
+    }
+    simpler
+}
+
+/// The input with one entry of one of its lists smaller.
+pub fn lowered_in<I: Clone, const L: usize>(input: &I, lists: [List<I>; L]) -> Vec<I> {
+    let mut simpler = Vec::new();
+    for list in lists {
+        for lower in lowered(list(&mut input.clone())) {
+            let mut input = input.clone();
+            *list(&mut input) = lower;
+            simpler.push(input);
+        }
+    }
+    simpler
+}
+
 /// The same list with one entry smaller, in all ways that are tried.
 pub fn lowered(list: &[u8]) -> impl Iterator<Item = Vec<u8>> + '_ {
     (0..list.len()).flat_map(move |place| {

@@ -7,7 +7,7 @@ use rules::{BLACK, EMPTY, Sums};
 
 use crate::engine::Engine;
 use crate::guarded::Guarded;
-use crate::harness::{Call, Family, Label};
+use crate::harness::{Call, Family, Label, refused};
 use crate::simpler;
 
 pub struct TargetSums;
@@ -81,7 +81,7 @@ impl Call for TargetSums {
         against_rules(engine, input, &rules)
             .map_err(|difference| format!("{difference}\n  {}", rust_says(input)))?;
         match rules {
-            Err(number @ (1 | 2 | 7)) => Ok(label(number)),
+            Err(number @ (1 | 2 | 7)) => Ok(refused(number)),
             rules => against_rust(input, &rules),
         }
     }
@@ -94,18 +94,6 @@ impl Call for TargetSums {
             ..input.clone()
         }));
         simpler
-    }
-}
-
-fn label(number: u8) -> Label {
-    match number {
-        0 => "summed",
-        1 => "refused 1",
-        2 => "refused 2",
-        7 => "refused 7",
-        8 => "refused 8",
-        9 => "refused 9",
-        _ => "refused 10",
     }
 }
 
@@ -155,7 +143,8 @@ fn against_rust(input: &Input, rules: &Result<Sums, u8>) -> Result<Label, String
         _ if documented || *rules != rust => {
             Err(format!("the rules give {rules:?}, the Rust gives {rust:?}"))
         }
-        (rules, _) => Ok(label(rules.as_ref().err().copied().unwrap_or(0))),
+        (Ok(_), _) => Ok("summed"),
+        (Err(number), _) => Ok(refused(*number)),
     }
 }
 

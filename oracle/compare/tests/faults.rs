@@ -2,16 +2,37 @@
 
 use std::time::Duration;
 
+use compare::candidates::Candidates;
+use compare::count::Count;
+use compare::engine::{Engine, Question};
 use compare::harness::{Call, jobs_of};
 use compare::marking::MarkSheet;
+use compare::report;
+use compare::solve::Solve;
 use compare::sums::TargetSums;
-use compare::{Engine, report};
+use reference::Solved;
 
-/// An engine made of two functions.
+type Sums = fn(usize, &[u8], &mut [u8], &mut [u8]) -> u8;
+type Marking = fn(usize, &[u8], &[u8], &[u8]) -> u8;
+type Counting = fn(Question, u64, &mut u64) -> u8;
+type IntoBytes = fn(Question, &mut [u8]) -> u8;
+
+/// An engine made of functions.
 struct Faulty {
-    sums: fn(usize, &[u8], &mut [u8], &mut [u8]) -> u8,
-    marking: fn(usize, &[u8], &[u8], &[u8]) -> u8,
+    sums: Sums,
+    marking: Marking,
+    count: Counting,
+    solve: IntoBytes,
+    candidates: IntoBytes,
 }
+
+const GOOD: Faulty = Faulty {
+    sums: good_sums,
+    marking: good_marking,
+    count: good_count,
+    solve: good_solve,
+    candidates: good_candidates,
+};
 
 impl Engine for Faulty {
     fn target_sums(&self, size: usize, cells: &[u8], rows: &mut [u8], columns: &mut [u8]) -> u8 {
@@ -20,6 +41,18 @@ impl Engine for Faulty {
 
     fn mark_sheet(&self, size: usize, rows: &[u8], columns: &[u8], cells: &[u8]) -> u8 {
         (self.marking)(size, rows, columns, cells)
+    }
+
+    fn count(&self, asked: Question, cap: u64, count: &mut u64) -> u8 {
+        (self.count)(asked, cap, count)
+    }
+
+    fn solve(&self, asked: Question, cells: &mut [u8]) -> u8 {
+        (self.solve)(asked, cells)
+    }
+
+    fn candidates(&self, asked: Question, table: &mut [u8]) -> u8 {
+        (self.candidates)(asked, table)
     }
 }
 
@@ -41,26 +74,90 @@ fn good_marking(size: usize, rows: &[u8], columns: &[u8], cells: &[u8]) -> u8 {
     }
 }
 
+/// The refusal that every searching call has before it looks at its buffer.
+fn refusal(asked: Question) -> Option<u8> {
+    rules::count_refusal(asked.size, asked.rows, asked.columns, asked.marks)
+}
+
+/// As `refusal`, and for a buffer of another length.
+fn refusal_with(asked: Question, length: usize, exact: usize) -> Option<u8> {
+    refusal(asked).or((length != exact).then_some(7))
+}
+
+/// The comparison never asks for a search past its limit.
+fn good_count(asked: Question, cap: u64, count: &mut u64) -> u8 {
+    if let Some(number) = refusal(asked) {
+        return number;
+    }
+    let marks = rules::marks_of(asked.marks);
+    let (rows, columns) = (asked.rows, asked.columns);
+    *count = reference::count(asked.size, rows, columns, &marks, cap as usize) as u64;
+    0
+}
+
+fn good_solve(asked: Question, cells: &mut [u8]) -> u8 {
+    if let Some(number) = refusal_with(asked, cells.len(), asked.size.wrapping_pow(2)) {
+        return number;
+    }
+    let marks = rules::marks_of(asked.marks);
+    let solved = reference::solve(asked.size, asked.rows, asked.columns, &marks);
+    let (number, grid) = match solved {
+        Solved::Unsolvable => return 100,
+        Solved::Unique(grid) => (101, grid),
+        Solved::Multiple(grid) => (102, grid),
+    };
+    cells.copy_from_slice(&grid);
+    number
+}
+
+fn good_candidates(asked: Question, table: &mut [u8]) -> u8 {
+    let exact = asked.size.wrapping_pow(2).wrapping_mul(2);
+    if let Some(number) = refusal_with(asked, table.len(), exact) {
+        return number;
+    }
+    let marks = rules::marks_of(asked.marks);
+    match reference::candidates(asked.size, asked.rows, asked.columns, &marks) {
+        Some(entries) => {
+            table.copy_from_slice(&rules::word_bytes(&entries));
+            0
+        }
+        None => 100,
+    }
+}
+
 /// The smallest input of this call that shows the fault.
 fn found<C: Call + 'static>(engine: &Faulty) -> Option<String> {
     let found = report::run(engine, &jobs_of::<C>(1), Duration::ZERO).err()?;
     Some(found.failure.input)
 }
 
-fn found_in_sums(sums: fn(usize, &[u8], &mut [u8], &mut [u8]) -> u8) -> Option<String> {
-    let marking = good_marking;
-    found::<TargetSums>(&Faulty { sums, marking })
+fn found_in_sums(sums: Sums) -> Option<String> {
+    found::<TargetSums>(&Faulty { sums, ..GOOD })
 }
 
-fn found_in_marking(marking: fn(usize, &[u8], &[u8], &[u8]) -> u8) -> Option<String> {
-    let sums = good_sums;
-    found::<MarkSheet>(&Faulty { sums, marking })
+fn found_in_marking(marking: Marking) -> Option<String> {
+    found::<MarkSheet>(&Faulty { marking, ..GOOD })
+}
+
+fn found_in_count(count: Counting) -> String {
+    found::<Count>(&Faulty { count, ..GOOD }).expect("the fault is found")
+}
+
+fn found_in_solve(solve: IntoBytes) -> String {
+    found::<Solve>(&Faulty { solve, ..GOOD }).expect("the fault is found")
+}
+
+fn found_in_candidates(candidates: IntoBytes) -> String {
+    found::<Candidates>(&Faulty { candidates, ..GOOD }).expect("the fault is found")
 }
 
 #[test]
 fn an_engine_by_the_rules_passes() {
     assert_eq!(found_in_sums(good_sums), None);
     assert_eq!(found_in_marking(good_marking), None);
+    assert_eq!(found::<Count>(&GOOD), None);
+    assert_eq!(found::<Solve>(&GOOD), None);
+    assert_eq!(found::<Candidates>(&GOOD), None);
 }
 
 #[test]
@@ -159,4 +256,196 @@ fn a_target_one_too_large_is_found() {
         }
     });
     assert!(input.is_some_and(|input| input.starts_with("size 9")));
+}
+
+/// How the smallest input begins: the only puzzle of size 2.
+const SMALLEST: &str = "size 2, rows [0, 0], columns [0, 0], marks [";
+
+fn is_smallest(input: &str, rest: &str) {
+    assert_eq!(input, format!("{SMALLEST}{rest}"));
+}
+
+#[test]
+fn a_count_one_too_high_is_found() {
+    let input = found_in_count(|asked, cap, count| {
+        let number = good_count(asked, cap, count);
+        *count += u64::from(number == 0);
+        number
+    });
+    is_smallest(&input, "], cap 0");
+}
+
+#[test]
+fn a_cap_that_is_ignored_is_found() {
+    let input = found_in_count(|asked, cap, count| good_count(asked, cap.max(9), count));
+    is_smallest(&input, "], cap 0");
+}
+
+#[test]
+fn a_second_branch_with_the_full_cap_is_found() {
+    let input = found_in_count(|asked, cap, count| {
+        let more = if cap == 1 { 2 } else { cap };
+        good_count(asked, more, count)
+    });
+    assert!(input.starts_with("size 3") && input.ends_with("cap 1"));
+}
+
+#[test]
+fn a_count_that_is_the_cap_is_found() {
+    let input = found_in_count(|asked, cap, count| {
+        let number = good_count(asked, cap, count);
+        if number == 0 && *count > 0 {
+            *count = cap;
+        }
+        number
+    });
+    is_smallest(&input, "], cap 2");
+}
+
+#[test]
+fn a_count_by_the_first_mark_alone_is_found() {
+    let input = found_in_count(|asked, cap, count| {
+        let marks = match refusal(asked) {
+            None => &asked.marks[..asked.marks.len().min(2)],
+            Some(_) => asked.marks,
+        };
+        good_count(Question { marks, ..asked }, cap, count)
+    });
+    // Two marks and no more.
+    let marks = input.strip_prefix(SMALLEST).expect("size 2");
+    assert_eq!(marks.find(']'), Some("00 40 80 40".len()));
+}
+
+#[test]
+fn a_count_written_on_a_refusal_is_found() {
+    let input = found_in_count(|asked, cap, count| {
+        let number = good_count(asked, cap, count);
+        if number == 6 {
+            *count = 0;
+        }
+        number
+    });
+    is_smallest(&input, "00 00], cap 0");
+}
+
+#[test]
+fn half_a_mark_that_is_overlooked_is_found() {
+    let input = found_in_count(|asked, cap, count| {
+        let marks = &asked.marks[..asked.marks.len() / 2 * 2];
+        good_count(Question { marks, ..asked }, cap, count)
+    });
+    is_smallest(&input, "00], cap 0");
+}
+
+#[test]
+fn a_mark_looked_at_before_the_targets_is_found() {
+    let input = found_in_count(|asked, cap, count| match good_count(asked, cap, count) {
+        3 => rules::marks_refusal(asked.size, &rules::marks_of(asked.marks)).unwrap_or(3),
+        number => number,
+    });
+    assert!(input.starts_with("size 2"));
+}
+
+#[test]
+fn a_verdict_that_is_always_multiple_is_found() {
+    let input = found_in_solve(|asked, cells| match good_solve(asked, cells) {
+        101 => 102,
+        number => number,
+    });
+    is_smallest(&input, "], a buffer of 4 bytes");
+}
+
+#[test]
+fn unsolvable_without_a_look_is_found() {
+    let input = found_in_solve(|asked, cells| {
+        refusal_with(asked, cells.len(), asked.size.wrapping_pow(2)).unwrap_or(100)
+    });
+    is_smallest(&input, "], a buffer of 4 bytes");
+}
+
+#[test]
+fn cells_written_where_there_is_no_grid_are_found() {
+    let input = found_in_solve(|asked, cells| {
+        let number = good_solve(asked, cells);
+        if number == 100 {
+            cells.fill(0);
+        }
+        number
+    });
+    assert!(input.starts_with("size 2"));
+}
+
+/// The rules leave open which grid is written; the runs do not.
+#[test]
+fn another_grid_than_the_first_is_found() {
+    let input = found_in_solve(|asked, cells| {
+        let number = good_solve(asked, cells);
+        if number == 102 && asked.size == 3 {
+            let marks = rules::marks_of(asked.marks);
+            let grids = rules::every_grid(3, asked.rows, asked.columns, &marks);
+            let mut grids = grids.into_iter().flatten();
+            let other = grids.find(|grid| *grid != cells).expect("a second grid");
+            cells.copy_from_slice(other);
+        }
+        number
+    });
+    assert!(input.starts_with("size 3"));
+}
+
+#[test]
+fn a_table_with_nothing_struck_is_found() {
+    let input = found_in_candidates(|asked, table| {
+        let number = good_candidates(asked, table);
+        if number == 0 {
+            let full = (1u16 << (asked.size + 3)) - 2;
+            table.copy_from_slice(&rules::word_bytes(&vec![full; asked.size * asked.size]));
+        }
+        number
+    });
+    is_smallest(&input, "], a buffer of 8 bytes");
+}
+
+#[test]
+fn a_table_of_the_wrong_byte_order_is_found() {
+    let input = found_in_candidates(|asked, table| {
+        let number = good_candidates(asked, table);
+        if number == 0 {
+            table.chunks_exact_mut(2).for_each(<[u8]>::reverse);
+        }
+        number
+    });
+    is_smallest(&input, "], a buffer of 8 bytes");
+}
+
+#[test]
+fn a_table_that_is_one_entry_short_is_found() {
+    let input = found_in_candidates(|asked, table| {
+        let last = table.len().saturating_sub(2);
+        let before = table[last..].to_vec();
+        let number = good_candidates(asked, table);
+        table[last..].copy_from_slice(&before);
+        number
+    });
+    is_smallest(&input, "], a buffer of 8 bytes");
+}
+
+#[test]
+fn a_table_counted_in_entries_is_found() {
+    let input = found_in_candidates(|asked, table| match good_candidates(asked, table) {
+        7 if table.len() == asked.size * asked.size => 0,
+        number => number,
+    });
+    is_smallest(&input, "], a buffer of 4 bytes");
+}
+
+#[test]
+fn marks_that_are_skipped_are_found() {
+    let input = found_in_candidates(|asked, table| {
+        let marks = match refusal(asked) {
+            None => &[],
+            Some(_) => asked.marks,
+        };
+        good_candidates(Question { marks, ..asked }, table)
+    });
+    assert!(input.starts_with(SMALLEST));
 }

@@ -1,13 +1,17 @@
-//! Cells, lengths and puzzles that the programs of the oracle draw. The same
+//! Cells, lengths, puzzles and marks that the programs of the oracle draw. The same
 //! generator state gives the same input on every machine.
 
+mod asked;
 mod cells;
 mod puzzles;
 
+pub use asked::{
+    Asked, any_mark, any_marks, damage_asked, of_a_grid, of_a_pinned_grid, of_random_targets,
+};
 pub use cells::{
     any_byte, blacks_of_a_grid, damage, grid, random_cells, sums_near_255, transposed,
 };
-pub use puzzles::{Puzzle, different_puzzles, puzzle};
+pub use puzzles::{Puzzle, different_puzzles, puzzle, short_puzzle};
 pub use rand::{Rng, SeededRng};
 
 /// Sizes that are refused. Some have an accepted size in their low bits, one
@@ -43,12 +47,22 @@ pub fn lengths_around(size: usize) -> Vec<usize> {
     lengths
 }
 
+/// Every choice of two such lengths.
+pub fn two_lengths_around(size: usize) -> impl Iterator<Item = [usize; 2]> {
+    choices(lengths_around(size))
+}
+
 /// Every choice of three such lengths.
 pub fn three_lengths_around(size: usize) -> impl Iterator<Item = [usize; 3]> {
-    let lengths = lengths_around(size);
-    let count = lengths.len();
-    (0..count.pow(3))
-        .map(move |index| [index, index / count, index / count / count].map(|i| lengths[i % count]))
+    choices(lengths_around(size))
+}
+
+/// Every way to choose so many of these, in order and with repeats.
+pub fn choices<T: Copy, const COUNT: usize>(from: Vec<T>) -> impl Iterator<Item = [T; COUNT]> {
+    let total = from.len().pow(COUNT as u32);
+    (0..total).map(move |index| {
+        std::array::from_fn(|place| from[index / from.len().pow(place as u32) % from.len()])
+    })
 }
 
 /// Every list of `length` bytes from `alphabet`.

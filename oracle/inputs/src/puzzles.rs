@@ -1,7 +1,7 @@
 use std::collections::HashSet;
 
 use rand::SeededRng;
-use reference::random_grid;
+use reference::{Limit, count_within, random_grid};
 
 /// The targets of one puzzle.
 #[derive(Clone, Debug, PartialEq, Eq, Hash)]
@@ -13,8 +13,12 @@ pub struct Puzzle {
 
 /// The puzzle of this number: the targets of the grid drawn from it.
 pub fn puzzle(size: usize, number: u64) -> Puzzle {
-    let cells = random_grid(size, &mut SeededRng::new(number));
-    let (rows, columns) = reference::target_sums(size, &cells).expect("a grid has sums");
+    puzzle_of(size, &random_grid(size, &mut SeededRng::new(number)))
+}
+
+/// The targets of this grid.
+pub fn puzzle_of(size: usize, cells: &[u8]) -> Puzzle {
+    let (rows, columns) = reference::target_sums(size, cells).expect("a grid has sums");
     Puzzle {
         size,
         rows,
@@ -30,4 +34,18 @@ pub fn different_puzzles(size: usize, count: usize) -> Vec<Puzzle> {
         .filter(|puzzle| seen.insert(puzzle.clone()))
         .take(count)
         .collect()
+}
+
+/// The first puzzle with more than one grid, or at size 2 with its only one, that
+/// the Rust counts to cap 2 in few nodes.
+pub fn short_puzzle(size: usize) -> Puzzle {
+    let grids = if size == 2 { 1 } else { 2 };
+    let counted = |puzzle: &Puzzle| {
+        let few = Limit::Nodes(20);
+        count_within(few, size, &puzzle.rows, &puzzle.columns, &[], 2)
+    };
+    (0..)
+        .map(|number| puzzle(size, number))
+        .find(|puzzle| counted(puzzle) == Some(grids))
+        .expect("the numbers do not end")
 }

@@ -1,7 +1,7 @@
 use std::collections::HashSet;
 
-use inputs::{Puzzle, SeededRng, all_lists, different_puzzles, lengths_around, puzzle};
-use rules::{BLACK, line_sum};
+use inputs::{Asked, Puzzle, SeededRng, all_lists, different_puzzles, lengths_around, puzzle};
+use rules::{BLACK, Mark, line_sum};
 
 #[test]
 fn the_puzzles_of_the_benchmark_differ() {
@@ -47,4 +47,59 @@ fn is_near(line: &[u8]) -> bool {
     let between = line.iter().skip_while(|&&cell| cell != BLACK).skip(1);
     let room = between.take_while(|&&cell| cell != BLACK).count();
     room == 0 || matches!(line_sum(line), Ok(253..=255) | Err(10))
+}
+
+#[test]
+fn marks_are_of_their_size_and_of_every_kind() {
+    let mut rng = SeededRng::new(5);
+    for size in 2..=9 {
+        let marks: HashSet<u16> = (0..40_000)
+            .map(|_| inputs::any_mark(&mut rng, size))
+            .collect();
+        let all = (0..=u16::MAX).filter(|&mark| rules::marks_refusal(size, &[mark]).is_none());
+        assert_eq!(marks, all.collect(), "size {size}");
+    }
+}
+
+#[test]
+fn half_of_the_lists_are_kept_by_their_grid() {
+    let mut rng = SeededRng::new(6);
+    let (mut kept, mut taken, mut repeated) = (0, 0, 0);
+    for _ in 0..1000 {
+        let cells = inputs::grid(&mut rng, 6);
+        let marks = inputs::any_marks(&mut rng, 6, &cells);
+        assert!(marks.len() <= 12);
+        let different: HashSet<&u16> = marks.iter().collect();
+        repeated += usize::from(different.len() < marks.len());
+        taken += usize::from(marks.iter().any(|&mark| !Mark::unpack(mark).rejected));
+        kept += usize::from(marks.iter().all(|&mark| rules::keeps_mark(6, &cells, mark)));
+    }
+    assert!((500..800).contains(&kept), "{kept} kept");
+    assert!(
+        taken > 700 && repeated > 200,
+        "{taken} take, {repeated} repeat"
+    );
+}
+
+#[test]
+fn a_damaged_input_is_often_refused_and_in_every_way() {
+    let mut rng = SeededRng::new(7);
+    let mut refusals = HashSet::new();
+    for _ in 0..2000 {
+        let mut asked: Asked = inputs::of_a_grid(&mut rng, 5);
+        inputs::damage_asked(&mut rng, &mut asked);
+        let Asked { size, rows, .. } = &asked;
+        let (columns, marks) = (&asked.columns, &asked.marks);
+        refusals.insert(rules::count_refusal(*size, rows, columns, marks));
+    }
+    let every = [None, Some(1), Some(2), Some(3), Some(4), Some(5), Some(6)];
+    assert_eq!(refusals, HashSet::from(every));
+}
+
+#[test]
+fn short_puzzles_have_more_than_one_grid() {
+    for size in 3..=9 {
+        let Puzzle { rows, columns, .. } = inputs::short_puzzle(size);
+        assert_eq!(reference::count(size, &rows, &columns, &[], 2), 2);
+    }
 }

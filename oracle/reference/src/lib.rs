@@ -34,5 +34,5 @@ mod sums;
 
 pub use draw::random_grid;
 pub use limit::Limit;
-pub use solver::{Solved, accepts, candidates, count, count_within, solve, solve_within};
+pub use solver::{Solved, accepts, candidates, count, count_within, opens, solve, solve_within};
 pub use sums::{ReadyGrid, overflow_is_checked, ready_grid, target_sums};

@@ -31,6 +31,12 @@ pub fn candidates(size: usize, rows: &[u8], columns: &[u8], marks: &[u16]) -> Op
     })
 }
 
+/// Builds the solver, which opens and propagates once; whether every cell has a
+/// candidate left. To time the constructor alone.
+pub fn opens(size: usize, rows: &[u8], columns: &[u8]) -> bool {
+    with_size!(size, N => !marked::<N, SearchNodes>(rows, columns, &[]).is_contradiction())
+}
+
 /// The number of grids, at most `cap`.
 pub fn count(size: usize, rows: &[u8], columns: &[u8], marks: &[u16], cap: usize) -> usize {
     with_size!(size, N => {

@@ -6,11 +6,16 @@ pub fn satisfies(size: usize, rows: &[u8], columns: &[u8], marks: &[u16], cells:
     let column = |c: usize| (0..size).map(|r| cells[r * size + c]).collect::<Vec<u8>>();
     (0..size).all(|r| line_satisfies(&row(r), rows[r]))
         && (0..size).all(|c| line_satisfies(&column(c), columns[c]))
-        && marks.iter().all(|&word| {
-            let mark = Mark::unpack(word);
-            let (row, column) = (row(mark.row), column(mark.column));
-            has_value(mark, &row, &column) != mark.rejected
-        })
+        && marks.iter().all(|&mark| keeps_mark(size, cells, mark))
+}
+
+/// Whether these cells keep the mark: they have its value if it is taken, and
+/// not if it is rejected.
+pub fn keeps_mark(size: usize, cells: &[u8], mark: u16) -> bool {
+    let mark = Mark::unpack(mark);
+    let row = &cells[mark.row * size..][..size];
+    let column: Vec<u8> = (0..size).map(|r| cells[r * size + mark.column]).collect();
+    has_value(mark, row, &column) != mark.rejected
 }
 
 /// Each digit once, two blacks, and the target between them.

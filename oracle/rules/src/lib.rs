@@ -3,13 +3,19 @@
 //!
 //! A refusal is its number. Where a call refuses, it writes nothing.
 
+mod every;
 mod grids;
 mod marks;
+mod searching;
 mod sums;
+mod table;
 
-pub use grids::{satisfies, ways};
+pub use every::{LISTED, every_grid};
+pub use grids::{keeps_mark, satisfies, ways};
 pub use marks::{Mark, marks_refusal};
+pub use searching::{candidates_refusal, count_refusal, marks_of, solve_refusal, word_bytes};
 pub use sums::{Sums, line_sum, mark_sheet, target_sums};
+pub use table::{has_grid, shows_mark};
 
 /// Cell byte of a cell that holds nothing.
 pub const EMPTY: u8 = 0;

@@ -29,7 +29,7 @@ pub fn mark_sheet(size: usize, rows: &[u8], columns: &[u8], cells: &[u8]) -> Res
 }
 
 /// All rows come before all columns.
-fn sums(size: usize, cells: &[u8]) -> Result<Sums, u8> {
+pub fn sums(size: usize, cells: &[u8]) -> Result<Sums, u8> {
     let row = |r: usize| cells[r * size..][..size].to_vec();
     let column = |c: usize| (0..size).map(|r| cells[r * size + c]).collect();
     let rows = (0..size)

@@ -1,0 +1,59 @@
+//! Target sums, marking, counting and solving from Rust. It prints the same lines
+//! as the C example.
+
+use doppelblock::{
+    BLACK as B, EMPTY, Mark, Refusal, Sheet, Verdict, count, mark_sheet, solve, target_sums,
+};
+
+pub fn main() -> Result<(), Refusal> {
+    sums_and_marking()?;
+    counting_and_solving()
+}
+
+fn sums_and_marking() -> Result<(), Refusal> {
+    let mut cells = [B, 1, B, 1, B, B, B, B, 1];
+    let (mut rows, mut columns) = ([0; 3], [0; 3]);
+
+    target_sums(3, &cells, &mut rows, &mut columns)?;
+    println!("rows {}, columns {}", listed(&rows), listed(&columns));
+
+    assert_eq!(mark_sheet(3, &rows, &columns, &cells)?, Sheet::Right);
+    println!("the sheet is right");
+
+    cells[0] = EMPTY;
+    assert_eq!(mark_sheet(3, &rows, &columns, &cells)?, Sheet::Wrong);
+    println!("without its first black it is wrong");
+
+    let refusal = target_sums(3, &cells, &mut rows, &mut columns).unwrap_err();
+    println!("and its sums are refused with {}", refusal.number());
+    Ok(())
+}
+
+fn counting_and_solving() -> Result<(), Refusal> {
+    let (rows, columns) = ([0, 1, 0], [0, 1, 0]);
+    let grids = count(3, &rows, &columns, &[], 100)?;
+    println!("rows {0}, columns {0}: {grids} grids", listed(&rows));
+
+    let marks = Mark::list(&[Mark::reject(0, 0, 1)]);
+    let mut cells = [EMPTY; 9];
+    let verdict = solve(3, &rows, &columns, &marks, &mut cells)?;
+    assert_eq!(verdict, Verdict::Unique);
+    println!("one without a 1 in its first cell: {}", drawn(&cells));
+    Ok(())
+}
+
+fn listed(sums: &[u8]) -> String {
+    let numbers: Vec<String> = sums.iter().map(u8::to_string).collect();
+    numbers.join(" ")
+}
+
+/// Rows joined by `/`, blacks as `#`.
+fn drawn(cells: &[u8; 9]) -> String {
+    let cell = |&cell: &u8| match cell {
+        B => "#".to_string(),
+        digit => digit.to_string(),
+    };
+    let rows = cells.chunks_exact(3);
+    let rows: Vec<String> = rows.map(|row| row.iter().map(cell).collect()).collect();
+    rows.join("/")
+}
