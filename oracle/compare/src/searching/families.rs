@@ -13,12 +13,8 @@ pub fn families<R: Rest>() -> Vec<Family<Input<R>>> {
         Family::whole("size 2, targets 0 and 1, up to two marks", || {
             with_marks(inputs::all_lists(4, &[0, 1]), 0..=2)
         }),
-        Family::whole("size 3, all targets, up to one mark", || {
-            with_marks(inputs::all_lists(6, &[0, 1]), 0..=1)
-        }),
-        Family::whole("size 3, targets of a grid, two marks", || {
-            let targets = inputs::all_lists(6, &[0, 1]);
-            with_marks(targets.filter(|targets| has_grid(targets)), 2..=2)
+        Family::whole("size 3, all targets, up to two marks", || {
+            with_marks(inputs::all_lists(6, &[0, 1]), 0..=2)
         }),
         Family::whole("every mark word, each size", every_word),
         Family::drawn("targets of grids, marks", |rng| {
@@ -58,16 +54,6 @@ fn asked(targets: &[u8], marks: &[u16]) -> Asked {
         columns: columns.to_vec(),
     };
     Asked::of(puzzle, marks)
-}
-
-fn has_grid(targets: &[u8]) -> bool {
-    let Asked {
-        size,
-        rows,
-        columns,
-        ..
-    } = asked(targets, &[]);
-    rules::every_grid(size, &rows, &columns, &[]).is_some_and(|grids| !grids.is_empty())
 }
 
 fn with_each<R: Rest>(asked: &Asked, rests: Vec<R>) -> impl Iterator<Item = Input<R>> + use<R> {
