@@ -1,24 +1,22 @@
 -- What propagation and the branching rule tell: no grid left, one grid left, or a choice. Assumes nothing.
 use Prim.Native.Nat.{ℕ, _+_, _*_, _/_, _%_, _≤_, _<_}
-use mathlib.Core.Path.{_≡_, refl, sym, ap, _∙_, subst}
+use mathlib.Core.Path.{_≡_, sym, _∙_, subst}
 use mathlib.Core.Bool.{Bool, true, false}
-use mathlib.Core.List.{List, List·Memᴰ}
+use mathlib.Core.List.{List}
 use native.Mathlib.Omega.{arith}
-use lib.ListN.{length}
 use Rattle.rules.specs.Grid.{Puzzle}
-use Rattle.table.specs.Table.{left, fits}
+use Rattle.table.specs.Table.{left}
 use Rattle.table.specs.Reading.{choices, readOff, AllSettled}
 use Rattle.line_laws.specs.GridLines.{GridOf}
 use Rattle.settled.specs.EmptyCell.{Empty, empty-left}
 use Rattle.settled.specs.NoStall.{no-stall}
 use Rattle.settled.specs.ReadLaws.{read-way}
 use Rattle.settled.specs.SettledTable.{read-keeps, read-fits, settled-left}
-use Rattle.soundness.specs.CellValues.{IsValue}
-use Rattle.soundness.specs.SameGrids.{SameGrids, same-left, Within}
-use Rattle.slab.specs.Slab.{cand, tableIn}
+use Rattle.soundness.specs.SameGrids.{same-left}
+use Rattle.slab.specs.Slab.{tableIn}
 use Rattle.slab.specs.Ready.{Ready}
 use Rattle.words.specs.Word.{Words}
-use Rattle.state.specs.State.{Kept, Lagging, Propagable, Propagated}
+use Rattle.state.specs.State.{Kept, Propagated}
 use Rattle.state.specs.StateLaws.{within-sub}
 use Rattle.pick.specs.Choice.{rowChoices, Branch}
 use Rattle.pick.specs.ChoiceLaws.{row-choices}

@@ -1,14 +1,11 @@
 -- A branch: the two tables, what they leave, and what falls. Assumes nothing.
 use Prim.Native.Nat.{ℕ, _+_, _-_, _*_, _/_, _%_, _≤_, _<_, min}
-use mathlib.Core.Path.{_≡_, refl, sym, ap, _∙_, subst}
-use mathlib.Core.Bool.{Bool, true, false, not, _&&_, true≢false}
-use mathlib.Core.Logic.{_⊎_, inl, inr, ⊎-elim}
+use mathlib.Core.Path.{_≡_, refl, sym, _∙_, subst}
+use mathlib.Core.Bool.{true}
+use mathlib.Core.Logic.{inl, inr}
 use mathlib.Core.List.{List, List·Memᴰ}
 use native.Mathlib.Omega.{arith}
 use native.Mathlib.Decide.{ℕ-discrete}
-use lib.Dec.{eqb}
-use lib.ListN.{length}
-use borrow.Author.Tests.{eqb-true, eq-eqb, ne-eqb}
 use Rattle.tally.specs.TallyLaws.{span-mem}
 use Rattle.rules.specs.Line.{digits}
 use Rattle.rules.specs.Grid.{Puzzle, across}
@@ -17,15 +14,14 @@ use Rattle.table.specs.Steps.{struck, taken}
 use Rattle.table.specs.Reading.{choices, openCells, total}
 use Rattle.line_laws.specs.Half.{digit-in, first-in, second-in}
 use Rattle.soundness.specs.CellValues.{IsValue, half-every}
-use Rattle.soundness.specs.SameGrids.{SameGrids, same-left, same-ext, Within, within-trans}
+use Rattle.soundness.specs.SameGrids.{same-left, same-ext, Within}
 use Rattle.soundness.specs.Taken.{branch-capped}
-use Rattle.soundness.specs.Measures.{open-le, total-le, total-less, taken-open}
-use Rattle.slab.specs.Slab.{cand, tableIn, Struck, One}
-use Rattle.slab.specs.SlabLaws.{cand-lt}
+use Rattle.soundness.specs.Measures.{open-le, total-less, taken-open}
+use Rattle.slab.specs.Slab.{tableIn, Struck, One}
 use Rattle.slab.specs.Ready.{Ready, ValueOf, ready-valid}
 use Rattle.set_cell.specs.Setting.{SetHit}
-use Rattle.set_cell.specs.SetLaws.{set-table, yes-table, no-table, table-yes}
-use Rattle.pick.specs.Choice.{rowChoices, Branch}
+use Rattle.set_cell.specs.SetLaws.{set-table, yes-table, no-table}
+use Rattle.pick.specs.Choice.{Branch}
 use Rattle.pick.specs.ChoiceLaws.{row-choices-at}
 use Rattle.state.specs.StateLaws.{value-small, within-sub, one-table}
 

@@ -1,31 +1,25 @@
 -- The search, turn by turn. Assumes nothing.
 use Prim.Native.Nat.{ℕ, _+_, _-_, _*_, _/_, _%_, _≤_, _<_, min}
 use mathlib.Core.Path.{_≡_, refl, sym, ap, _∙_, subst}
-use mathlib.Core.Bool.{Bool, true, false, not, _&&_, true≢false}
+use mathlib.Core.Bool.{Bool, true, false, _&&_, true≢false}
 use mathlib.Core.Logic.{_⊎_, inl, inr, ⊎-elim}
-use mathlib.Core.List.{List, List·Memᴰ}
+use mathlib.Core.List.{List}
 use native.Mathlib.Omega.{arith}
 use native.Mathlib.Decide.{ℕ-discrete}
 use lib.Dec.{eqb}
 use lib.ListN.{length}
-use borrow.Author.Tests.{eqb-true, eq-eqb, ne-eqb}
+use borrow.Author.Tests.{eqb-true, eq-eqb}
 use Rattle.tally.specs.TallyLaws.{and-left, and-right}
 use Rattle.rules.specs.Grid.{Puzzle}
-use Rattle.table.specs.Table.{left, fits, half}
-use Rattle.table.specs.Steps.{struck, taken}
-use Rattle.table.specs.Reading.{choices, readOff, openCells, total}
-use Rattle.line_laws.specs.GridLines.{GridOf}
-use Rattle.soundness.specs.CellValues.{IsValue}
-use Rattle.soundness.specs.SameGrids.{SameGrids, same-left, same-ext, Within, within-trans, within-refl, within-fits}
-use Rattle.soundness.specs.Taken.{branch-capped}
-use Rattle.soundness.specs.Measures.{open-le, total-le, total-less, taken-open}
-use Rattle.slab.specs.Slab.{cand, tableIn, Struck, One}
-use Rattle.slab.specs.Ready.{Ready, ValueOf}
-use Rattle.state.specs.State.{Kept, Lagging, Propagable}
+use Rattle.table.specs.Table.{left, fits}
+use Rattle.table.specs.Reading.{openCells, total}
+use Rattle.soundness.specs.SameGrids.{same-left, Within, within-trans, within-refl, within-fits}
+use Rattle.soundness.specs.Measures.{open-le, total-le}
+use Rattle.slab.specs.Slab.{tableIn, Struck, One}
+use Rattle.slab.specs.Ready.{Ready}
+use Rattle.state.specs.State.{Kept, Propagable}
 use Rattle.state.specs.StateLaws.{within-sub, kept-struck, lagging-struck}
 use Rattle.set_cell.specs.Setting.{SetHit, SetAsk}
-use Rattle.set_cell.specs.SetLaws.{set-table}
-use Rattle.pick.specs.Choice.{rowChoices, Branch}
 use Rattle.backtrack.specs.Search.{FitGrid, NoneLeft, OneLeft, Branching, SettledAs, Searchable, Searched}
 use Rattle.backtrack.specs.BranchLaws.{branch-value, branch-open, branch-total, branch-counts}
 

@@ -1,15 +1,14 @@
 -- Laws of single bits, of counts of ones and of trailing zeros. Assumes nothing.
-use mathlib.Core.Path.{_≡_, refl, sym, ap, ap₂, _∙_, subst}
-use mathlib.Core.Logic.{_⊎_, inl, inr, ⊎-elim}
-use Prim.Native.Nat.{ℕ, zero, suc, _+_, _-_, _*_, _/_, _%_, _^_, min, max, _≤_, _<_, zero-le}
-use native.Mathlib.Nat.{mod-eq-of-lt, add-zero, add-suc, mod-lt, add-comm, div-add-mod', pow-suc, div-div-eq-div-mul, mul-comm}
-use native.Mathlib.Numerals.{add-one, one-add}
+use mathlib.Core.Path.{_≡_, refl, sym, ap, _∙_}
+use Prim.Native.Nat.{ℕ, zero, suc, _+_, _-_, _*_, _/_, _%_, _^_, min, max, _≤_, _<_}
+use native.Mathlib.Nat.{mod-eq-of-lt, mod-lt, pow-suc}
+use native.Mathlib.Numerals.{one-add}
 use native.Mathlib.Omega.{arith}
 use lib.Dec.{lit<}
-use lib.Arith.{digits-mod, digits-div, lt-one}
+use lib.Arith.{digits-mod}
 use lib.Pow.{pow-pos, pow-lt, shr-shr}
-use lib.Count.{ones, ones-step, ones-cat, trailingZeros, under}
-use lib.Bits.{bitAnd, bitOr, and-shr, or-shr, and-step, or-step, and-high, and-mod, or-mod}
+use lib.Count.{ones, ones-step, trailingZeros, under}
+use lib.Bits.{bitAnd, bitOr, and-shr, or-shr, and-step, or-step}
 use Rattle.bits.specs.Bit.{bit}
 use Rattle.bits.specs.Sum.{sum}
 use Rattle.bits.specs.SumLaws.{sum-shift}
@@ -71,14 +70,6 @@ bit-ext (suc w) a b ha hb e =
 pub bit-none : (k : ℕ) → bit k 0 ≡ 0
 bit-none zero = bit-zero 0
 bit-none (suc k) = bit-suc k 0 ∙ bit-none k
-
--- the tests of the code: x & 1 << k, and x >> k & 1
-pub and-pow : (k x : ℕ) → bitAnd x (2 ^ k) ≡ bit k x * 2 ^ k
-unfolding bit
-and-pow k x = ap (bitAnd x) (sym (pow-eq k)) ∙ and-high x 1 k
-  where
-    pow-eq : (k : ℕ) → 2 ^ (1 + k) - 2 ^ k ≡ 2 ^ k
-    pow-eq k = rw (one-add, pow-suc) (omega arith)
 
 -- a single bit
 pub bit-pow-same : (k : ℕ) → bit k (2 ^ k) ≡ 1

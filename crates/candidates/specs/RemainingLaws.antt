@@ -1,5 +1,5 @@
 -- The written table from the state at rest, and the answer from it. Assumes nothing.
-use Prim.Native.Nat.{ℕ, suc, _+_, _-_, _*_, _≤_, _<_}
+use Prim.Native.Nat.{ℕ, suc, _+_, _-_, _≤_, _<_}
 use mathlib.Core.Path.{_≡_, refl, sym, ap, _∙_, subst}
 use mathlib.Core.Bool.{Bool, true, false, not, _&&_, _||_, true≢false, or-true}
 use mathlib.Core.Logic.{_≢_, inl, inr}
@@ -8,9 +8,8 @@ use native.Mathlib.Omega.{arith}
 use native.Mathlib.Decide.{ℕ-discrete, decLt}
 use lib.Dec.{ltb}
 use lib.ListN.{length}
-use borrow.Author.Tests.{eqb-true, eq-eqb, lt-ltb, le-leb}
-use Rattle.tally.specs.TallyLaws.{and-left, and-right, and-both, span-mem}
-use Rattle.rules.specs.Line.{digits}
+use borrow.Author.Tests.{lt-ltb, le-leb}
+use Rattle.tally.specs.TallyLaws.{and-left, and-right, and-both}
 use Rattle.rules.specs.Grid.{Puzzle, across, down, keeps}
 use Rattle.rules.specs.Mark.{rejects, markRow, markColumn, markValue}
 use Rattle.rules.specs.Check.{refusal, solveChecks}
@@ -21,18 +20,16 @@ use Rattle.table.specs.Table.{Table, firstBlack, half, fits, tableOf}
 use Rattle.table.specs.Steps.{inRow, inColumn, markedAll}
 use Rattle.table.specs.Closed.{Closed}
 use Rattle.line_laws.specs.Lists.{false-of}
-use Rattle.line_laws.specs.Half.{digit-in, first-in, second-in}
+use Rattle.line_laws.specs.Half.{first-in, second-in}
 use Rattle.line_laws.specs.GridLines.{GridOf}
 use Rattle.settled.specs.EmptyCell.{Empty, empty-left}
 use Rattle.soundness.specs.CellValues.{IsValue, CellValue, digit-value, row-black, column-black, cell-value, half-every}
 use Rattle.soundness.specs.SameGrids.{SameGrids, same-left, same-ext, same-trans}
 use Rattle.soundness.specs.Marks.{Accepted, marks-fits, rejected-gone, taken-alone}
 use Rattle.soundness.specs.Marks as marks
-use Rattle.slab.specs.Slab.{cand, tableIn}
-use Rattle.slab.specs.SlabLaws.{cand-lt}
-use Rattle.slab.specs.Ready.{ValueOf}
+use Rattle.slab.specs.Slab.{tableIn}
 use Rattle.state.specs.State.{Propagated}
-use Rattle.state.specs.StateLaws.{value-small}
+use Rattle.state.specs.StateLaws.{value-small, value-every, table-kept}
 use Rattle.written.specs.Published.{PublishedTable}
 use Rattle.written.specs.MaskLaws.{published-table}
 use Rattle.prepare.specs.Prepared.{Marked}
@@ -116,24 +113,6 @@ module _ (p : Puzzle) (t : Table) (small : p .size ≤ 9) (closed : Closed p t) 
 
 -- ---- the table at rest
 
-value-in : (n v : ℕ) → ValueOf n v → IsValue n v
-unfolding ValueOf digits firstBlack
-value-in n v (inl h) = half-every n (across 0) v (digit-in n 8 (span-mem 1 (n - 2) v (h .0) (omega arith)))
-value-in n v (inr h) =
-    elim (decLt v 10) [
-      | yes l ↦ one-of 8 v (IsValue n) (half-every n (across 0) 8 (first-in n 8)) (half-every n (across 0) 9 (second-in n 8)) (h .0) l
-      | no l ↦ one-of 10 v (IsValue n) (half-every n (down 0) 10 (first-in n 10)) (half-every n (down 0) 11 (second-in n 10)) (omega arith) (h .1)
-    ]
-
--- the table has shrunk
-sub-table : {n : ℕ} {l l′ : List ℕ} {b : Bool} → Propagated n l l′ b → (r c v : ℕ) → v < 16 → tableIn l r c v ≡ false → tableIn l′ r c v ≡ false
-unfolding tableIn
-sub-table {l = l} {l′ = l′} d r c v h e =
-    false-of _ (λ t.
-    let one = eqb-true (cand l′ (r * 9 + c) v) 1 t in
-    let old : cand l (r * 9 + c) v ≡ 1 = omega (arith, d .sub (r * 9 + c) v h, cand-lt l (r * 9 + c) v, one) in
-    true≢false (sym (eq-eqb _ 1 old) ∙ e))
-
 module _ {p : Puzzle} {ms : List ℕ} {len : ℕ} (a : SolveAsk p ms len) where
   small : p .size ≤ 9
   small = solve-size a .high
@@ -180,7 +159,7 @@ module _ {p : Puzzle} {ms : List ℕ} {len : ℕ} (a : SolveAsk p ms len) where
       gone x v k q e =
           let i = mark-in x k in
           same (markRow x) (markColumn x) v (i .row-in) (i .column-in) q
-          ∙ sub-table d (markRow x) (markColumn x) v (value-small (p .size) v small q) (marked-at x v k q e)
+          ∙ false-of _ (λ s. true≢false (sym (table-kept l l′ (d .sub) (markRow x) (markColumn x) v (value-small (p .size) v small q) s) ∙ marked-at x v k q e))
 
       others-gone : (x v : ℕ) → List·Memᴰ x ms → rejects x ≡ false → IsValue (p .size) v → v ≢ markValue x → sameHalf (markValue x) v ≡ true →
           t (markRow x) (markColumn x) v ≡ false
@@ -210,7 +189,7 @@ module _ {p : Puzzle} {ms : List ℕ} {len : ℕ} (a : SolveAsk p ms len) where
           record {
             size = e ∙ solve-room a;
             remaining = remaining;
-            plain = λ r c b hr hc q. let u = w .plain r c hr hc b q in (u .0, value-in (p .size) (u .0) (u .1), u .2);
+            plain = λ r c b hr hc q. let u = w .plain r c hr hc b q in (u .0, value-every (p .size) (u .0) small (u .1), u .2);
           }
 
 -- ---- the answers

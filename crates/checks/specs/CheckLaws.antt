@@ -37,15 +37,6 @@ said-yes b q e t = sym e ∙ not-false b t
 pub said-no : (b q : Bool) → b ≡ q → not b ≡ true → q ≡ false
 said-no b q e t = sym e ∙ not-true b t
 
--- one check
-pub refusal-yes : (k : ℕ) (b : Bool) (qs : List Check) → b ≡ true → refusal (check k b ∷ qs) ≡ refusal qs
-unfolding refusal
-refusal-yes k b qs e = rw e
-
-pub refusal-no : (k : ℕ) (b : Bool) (qs : List Check) → b ≡ false → refusal (check k b ∷ qs) ≡ k
-unfolding refusal
-refusal-no k b qs e = rw e
-
 module _ {A : Type 0} where
   pub join-append : (a b : List (List A)) → join (a ++ b) ≡ join a ++ join b
   unfolding join

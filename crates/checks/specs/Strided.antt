@@ -1,6 +1,6 @@
 -- A line read by its start and its stride, so that rows and columns are one case. Assumes nothing.
 use Prim.Native.Nat.{ℕ, zero, suc, _+_, _*_}
-use mathlib.Core.Path.{_≡_, refl, sym, ap, _∙_}
+use mathlib.Core.Path.{_≡_, ap, _∙_}
 use mathlib.Core.Bool.{Bool, _&&_}
 use mathlib.Core.List.{List, [], _∷_, _++_, map, map-append, map-map}
 use native.Mathlib.Omega.{arith}

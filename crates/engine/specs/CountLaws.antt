@@ -1,8 +1,8 @@
 -- The count from the search, and the answer from the count. Assumes nothing.
-use Prim.Native.Nat.{ℕ, zero, suc, _≤_, _<_, min}
-use mathlib.Core.Path.{_≡_, refl, sym, ap, _∙_, subst}
+use Prim.Native.Nat.{ℕ, zero, suc, _≤_, min}
+use mathlib.Core.Path.{_≡_, refl, sym, ap, _∙_}
 use mathlib.Core.Bool.{Bool, true, false, true≢false}
-use mathlib.Core.List.{List, [], _∷_, _++_, List·Memᴰ}
+use mathlib.Core.List.{List}
 use native.Mathlib.Omega.{arith}
 use lib.ListN.{length}
 use Rattle.checks.specs.CheckLaws.{refusal-skip, refusal-stop, refusal-none-left, refusal-none-right}
@@ -11,7 +11,6 @@ use Rattle.rules.specs.Grid.{Puzzle}
 use Rattle.rules.specs.Check.{refusal, puzzleChecks, markChecks, countChecks}
 use Rattle.rules.specs.Number.{number, capped}
 use Rattle.table.specs.Table.{left}
-use Rattle.table.specs.Steps.{markedAll}
 use Rattle.puzzle.specs.Given.{puzzle}
 use Rattle.puzzle.specs.PuzzleLaws.{puzzle-numbered, accepted}
 use Rattle.soundness.specs.SameGrids.{same-left, same-ext}
@@ -22,7 +21,6 @@ use Rattle.fresh.specs.Fresh.{Blank}
 use Rattle.state.specs.StateLaws.{value-small}
 use Rattle.backtrack.specs.Search.{Searchable, Searched}
 use Rattle.prepare.specs.Prepared.{PrepareAsk, Prepared, Marked}
-use Rattle.engine.specs.declared.Counted.{Counted}
 use Rattle.engine.specs.declared.Counted.the-variants.{Refused, Count}
 use Rattle.engine.specs.Answer.{counted, CountAsk}
 

@@ -1,9 +1,9 @@
 -- The verdict and the grid from the search. Assumes nothing.
-use Prim.Native.Nat.{ℕ, zero, suc, _*_, _≤_, _<_, min}
-use mathlib.Core.Path.{_≡_, refl, sym, ap, _∙_, subst}
+use Prim.Native.Nat.{ℕ, zero, suc, _*_, _≤_}
+use mathlib.Core.Path.{_≡_, refl, sym, ap, _∙_}
 use mathlib.Core.Bool.{Bool, true, false}
-use mathlib.Core.Logic.{_⊎_, inl, inr, ⊎-elim}
-use mathlib.Core.List.{List, [], _∷_, _++_}
+use mathlib.Core.Logic.{_⊎_, inl, ⊎-elim}
+use mathlib.Core.List.{List, [], _∷_}
 use native.Mathlib.Omega.{arith}
 use lib.Dec.{eqb}
 use lib.ListN.{length}
@@ -12,9 +12,9 @@ use Rattle.tally.specs.Tally.{join}
 use Rattle.checks.specs.CheckLaws.{numbered, refusal-skip, refusal-stop, refusal-none, refusal-none-left, refusal-none-right, numbered-append}
 use Rattle.checks.specs.SizeLaws.{Size, size-in}
 use Rattle.rules.specs.Grid.{Puzzle}
-use Rattle.rules.specs.Check.{Check, check, checkBuffer, refusal, checkMark, puzzleChecks, markChecks, countChecks, solveChecks}
-use Rattle.rules.specs.Number.{number, capped, Verdict, unsolvable, unique, multiple, verdictOf}
-use Rattle.number.specs.VerdictLaws.{Solution, verdict-capped}
+use Rattle.rules.specs.Check.{checkBuffer, refusal, checkMark, puzzleChecks, markChecks, countChecks, solveChecks}
+use Rattle.rules.specs.Number.{number, capped, verdictOf}
+use Rattle.number.specs.VerdictLaws.{verdict-capped}
 use Rattle.puzzle.specs.Given.{puzzle}
 use Rattle.puzzle.specs.PuzzleLaws.{puzzle-numbered, accepted}
 use Rattle.marks.specs.MarkLaws.{mark-numbered}
@@ -25,7 +25,7 @@ use Rattle.table.specs.Steps.{markedAll}
 use Rattle.slab.specs.Slab.{tableIn}
 use Rattle.state.specs.StateLaws.{value-small}
 use Rattle.backtrack.specs.Search.{Searchable, Searched}
-use Rattle.prepare.specs.Prepared.{PrepareAsk, Prepared, Marked}
+use Rattle.prepare.specs.Prepared.{Prepared, Marked}
 use Rattle.engine.specs.declared.Solved.{Solved}
 use Rattle.engine.specs.declared.Solved.the-variants.{Refused, Unsolvable, Unique, Multiple}
 use Rattle.engine.specs.Answer.{CountAsk}

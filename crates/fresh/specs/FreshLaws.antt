@@ -1,14 +1,13 @@
 -- The fresh state is ready: there is room for all its candidates, and only candidates of the size are in it. Assumes nothing.
-use Prim.Native.Nat.{ℕ, _+_, _-_, _*_, _/_, _%_, _≤_, _<_}
-use mathlib.Core.Path.{_≡_, refl, sym, ap, _∙_}
-use mathlib.Core.Logic.{_⊎_, inl, inr, ⊎-elim}
+use Prim.Native.Nat.{ℕ, _-_, _/_, _%_, _≤_, _<_}
+use mathlib.Core.Path.{_≡_, refl, ap, _∙_}
+use mathlib.Core.Logic.{_⊎_, inl, inr}
 use mathlib.Core.Bool.{Bool, true, false, _&&_, _||_, cond, or-true}
-use mathlib.Core.List.{List, [], _∷_}
+use mathlib.Core.List.{List}
 use native.Mathlib.Omega.{arith}
 use native.Mathlib.Decide.{decLt}
 use lib.Dec.{eqb, ltb, leb}
-use lib.ListN.{length, getD}
-use borrow.Author.Tests.{lt-ltb, le-ltb, le-leb, leb-true, ltb-true, eqb-true}
+use borrow.Author.Tests.{lt-ltb, le-leb, leb-true, ltb-true, eqb-true}
 use Rattle.tally.specs.Tally.{span, all}
 use Rattle.tally.specs.Tally as tally
 use Rattle.tally.specs.TallyLaws.{span-mem, and-left, and-right}
@@ -21,7 +20,7 @@ use Rattle.bits.specs.Bit.{bit}
 use Rattle.bits.specs.Sum.{sum}
 use Rattle.bits.specs.SumLaws.{sum-same}
 use Rattle.bits.specs.BitLaws.{bit-none}
-use Rattle.slab.specs.Slab.{cand, tail, waits, lag, left, Sized}
+use Rattle.slab.specs.Slab.{cand, tail, waits, lag, left}
 use Rattle.slab.specs.SlabLaws.{cand-in, cand-out}
 use Rattle.slab.specs.Ready.{ValueOf, Valid, Ready}
 use Rattle.fresh.specs.Fresh.{cellIn, Fresh}

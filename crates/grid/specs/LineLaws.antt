@@ -1,11 +1,9 @@
 -- The refusal of a line, and of line after line. Assumes nothing.
-use Prim.Native.Nat.{ℕ, zero, suc, _+_, _-_, _*_, _≤_, _<_}
-use mathlib.Core.Path.{_≡_, refl, sym, ap, _∙_}
+use Prim.Native.Nat.{ℕ, suc, _+_, _-_, _*_, _≤_, _<_}
+use mathlib.Core.Path.{_≡_, refl, sym, _∙_}
 use mathlib.Core.Bool.{Bool, true, false, not, cond}
-use mathlib.Core.List.{List, [], _∷_, _++_, map}
+use mathlib.Core.List.{List, _++_, map}
 use native.Mathlib.Omega.{arith}
-use native.Mathlib.Decide.{ℕ-discrete}
-use native.Mathlib.Nat.{mul-le-mul, mul-one}
 use lib.Dec.{eqb, leb}
 use lib.ListN.{length, take, set}
 use lib.Seq.{take-suc-set}
@@ -13,7 +11,7 @@ use native.Mathlib.Numerals.{add-one}
 use borrow.Author.Tests.{eq-eqb, ne-eqb, le-leb, lt-leb, leb-true}
 use Rattle.tally.specs.Tally.{all, count, join, span}
 use Rattle.rules.specs.Line.{isBlack, inside, lineSum}
-use Rattle.rules.specs.Check.{Check, check, refusal, isEmpty, checkLine}
+use Rattle.rules.specs.Check.{Check, refusal, isEmpty, checkLine}
 use Rattle.checks.specs.CheckLaws.{numbered, refusal-skip, refusal-stop}
 use Rattle.checks.specs.Strided.{strided, map-next}
 use Rattle.checks.specs.InsideLaws.{none-empty}

@@ -1,7 +1,6 @@
 -- What one cell more adds to a walk. Assumes nothing.
 use Prim.Native.Nat.{ℕ, _+_, _≤_, _<_}
 use mathlib.Core.Path.{_≡_, ap, _∙_}
-use mathlib.Core.Bool.{true, false}
 use mathlib.Core.List.{List, [], _∷_, _++_}
 use native.Mathlib.Omega.{arith}
 use borrow.Author.Tests.{eq-eqb, ne-eqb}
@@ -11,7 +10,7 @@ use Rattle.rules.specs.Line.{isBlack, inside, lineSum}
 use Rattle.rules.specs.Check.{isEmpty}
 use Rattle.checks.specs.InsideLaws.{inside-black, inside-white, inside-off, sum-snoc, count-snoc}
 use Rattle.grid.specs.declared.Scan.{Scan}
-use Rattle.grid.specs.Scanning.{Seen, Small, Next}
+use Rattle.grid.specs.Scanning.{Seen, Next}
 
 -- a cell that leaves the cells lineSum the blacks as they are
 module _ (s : Scan) (c : ℕ) (r : Scan) (b : r .blacks ≡ s .blacks + bit (isBlack c)) (e : r .empties ≡ s .empties) (t : r .sum ≡ s .sum) (u : bit (isBlack c) ≤ 1) where

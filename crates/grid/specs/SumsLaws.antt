@@ -1,21 +1,20 @@
 -- The checks of the target sums, one after the other, and what input that passes them all is. Assumes nothing.
 use Prim.Native.Nat.{ℕ, zero, suc, _+_, _-_, _*_, _≤_, _<_}
-use mathlib.Core.Path.{_≡_, refl, sym, ap, _∙_}
-use mathlib.Core.Bool.{Bool, true, false, _&&_}
-use mathlib.Core.List.{List, [], _∷_, _++_, map}
+use mathlib.Core.Path.{_≡_, refl, sym, _∙_}
+use mathlib.Core.Bool.{true, false}
+use mathlib.Core.List.{List, _++_}
 use native.Mathlib.Omega.{arith}
-use native.Mathlib.Nat.{mul-le-mul, mul-one}
-use lib.Dec.{eqb, leb}
+use lib.Dec.{eqb}
 use lib.ListN.{length}
-use borrow.Author.Tests.{eq-eqb, ne-eqb, eqb-true, leb-true}
-use Rattle.tally.specs.Tally.{join, span}
+use borrow.Author.Tests.{eq-eqb, ne-eqb, eqb-true}
+use Rattle.tally.specs.Tally.{join}
 use Rattle.tally.specs.TallyLaws.{and-left, and-right}
 use Rattle.rules.specs.Line.{lineSum}
 use Rattle.rules.specs.GridLaws.{place-lt}
-use Rattle.rules.specs.Check.{Check, check, refusal, checkLine, checkLines, sizeFits, targetsFit, sumsChecks}
+use Rattle.rules.specs.Check.{Check, refusal, checkLine, sizeFits, targetsFit, sumsChecks}
 use Rattle.checks.specs.CheckLaws.{refusal-skip, refusal-stop, refusal-none, refusal-none-left, refusal-none-right, refusal-none-each, numbered, numbered-join}
 use Rattle.checks.specs.Strided.{strided, each, checks-each, rows-each, columns-each}
-use Rattle.checks.specs.SizeLaws.{Size, size-in}
+use Rattle.checks.specs.SizeLaws.{size-in}
 use Rattle.rules.specs.Sums.{targetSums, rowSums, columnSums}
 use Rattle.grid.specs.declared.Summed.the-variants.{Refused, Done}
 use Rattle.grid.specs.Answer.{Answered}

@@ -9,15 +9,15 @@ use native.Mathlib.Decide.{ℕ-discrete}
 use lib.Dec.{eqb, ltb}
 use borrow.Author.Tests.{lt-ltb, le-ltb, ltb-true, eq-eqb}
 use Rattle.tally.specs.Tally.{any}
-use Rattle.tally.specs.TallyLaws.{and-left, and-right, and-both}
+use Rattle.tally.specs.TallyLaws.{and-left, and-right}
 use Rattle.checks.specs.SizeLaws.{Size}
 use Rattle.rules.specs.Grid.{Puzzle, Line, index, line, target}
 use Rattle.rules.specs.Mark.{has}
 use Rattle.rules.specs.Arrangement.{Arrangement, arrangements}
 use Rattle.table.specs.Table.{places, firstBlack, half, everyValue, own, fits}
 use Rattle.table.specs.Closed.{Covers}
-use Rattle.line_laws.specs.Lists.{any-mem, any-in}
-use Rattle.line_laws.specs.Half.{digit-range, digit-in, first-in, second-in}
+use Rattle.line_laws.specs.Lists.{any-in}
+use Rattle.line_laws.specs.Half.{digit-in, first-in, second-in}
 use Rattle.line_laws.specs.Parts.{LawfulLine}
 use Rattle.line_laws.specs.Found.{Follows, Backed, backed}
 use Rattle.line_laws.specs.Dead.{no-candidate, no-cell, dead-unfollowed}
@@ -25,7 +25,7 @@ use Rattle.line_laws.specs.GridLines.{rowOf, columnOf, place-in, GridOf, line-l
 use Rattle.soundness.specs.CellValues.{IsValue, CellValue, digit-value, row-black, column-black, cell-value, half-every, valueAt, value-in, value-has, has-is, has-fits}
 use Rattle.slab.specs.Slab.{cand, tableIn}
 use Rattle.slab.specs.SlabLaws.{cand-lt}
-use Rattle.slab.specs.Ready.{ValueOf, Valid}
+use Rattle.slab.specs.Ready.{Valid}
 use Rattle.words.specs.Word.{Known, arrangementOf, wordOf, pattern, part}
 use Rattle.words.specs.PatternLaws.{part-yes}
 use Rattle.words.specs.Arranged.{known-length, pattern-allows}
@@ -33,7 +33,7 @@ use Rattle.arcs.specs.Arc.{lineAt, cellAt, blackAt, LineOf, InHalf, lives, live
 use Rattle.arcs.specs.KillLaws.{black-low}
 use Rattle.arcs.specs.LineLaws.{line-places, sum-each}
 use Rattle.state.specs.State.{number, candidatesOf}
-use Rattle.state.specs.StateLaws.{value-small}
+use Rattle.state.specs.StateLaws.{value-of, candidate-at, value-small}
 
 -- ---- lines by number
 
@@ -74,32 +74,12 @@ of-candidate n g x v e =
       there = and-right (any (eqb v) (everyValue n)) _ last;
     }
 
-is-candidate : (n : ℕ) (g : List ℕ) (x v : ℕ) → Candidate n g x v → candidatesOf n g x v ≡ true
-unfolding candidatesOf
-is-candidate n g x v c = and-both (lt-ltb (x / 9) n (c .row)) (and-both (lt-ltb (x % 9) n (c .column)) (and-both (any-mem (c .value)) (c .there)))
-
--- a candidate of the cell of row r and column c
-candidate-at : (n : ℕ) (g : List ℕ) (r c v : ℕ) → r < n → c < n → n ≤ 9 → IsValue n v → has n g r c v ≡ true → candidatesOf n g (r * 9 + c) v ≡ true
-candidate-at n g r c v hr hc z m t =
-    let a : (r * 9 + c) / 9 ≡ r = omega arith in
-    let b : (r * 9 + c) % 9 ≡ c = omega arith in
-    is-candidate n g (r * 9 + c) v (record { row = omega arith; column = omega arith; value = m; there = rw (a, b) t })
-
 at-candidate : (n : ℕ) (g : List ℕ) (r c v : ℕ) → c < 9 → candidatesOf n g (r * 9 + c) v ≡ true → IsValue n v × (has n g r c v ≡ true)
 at-candidate n g r c v hc e =
     let a : (r * 9 + c) / 9 ≡ r = omega arith in
     let b : (r * 9 + c) % 9 ≡ c = omega arith in
     let o = of-candidate n g (r * 9 + c) v e in
     (o .value, rw (a, b) at (o .there))
-
-value-of : (n v : ℕ) → IsValue n v → ValueOf n v
-unfolding ValueOf
-value-of n v m = go (cell-value n v m)
-  where
-    go : CellValue n v → ((1 ≤ v) × (v < n - 1)) ⊎ ((8 ≤ v) × (v < 12))
-    go (digit-value q h) = inl (digit-range n v q)
-    go (row-black q l h) = inr (l, omega arith)
-    go (column-black q l h) = inr (omega arith, h)
 
 -- a value in the half of a line
 value-half : (n k v : ℕ) → IsValue n v → InHalf k v → List·Memᴰ v (half n k)

@@ -23,11 +23,6 @@ module _ (n k t : ℕ) (a : Arrangement) (m : List·Memᴰ a (arrangements n t))
   here : (j : ℕ) → j < length (a .digitSet) + 2 → place n a j < n
   here j h = step-lt n t a (arranged n t a m) j h
 
-  -- What is dead stays dead when candidates are struck.
-  pub dead-stays : (x y : Places) → ((i v : ℕ) → i < n → x i v ≡ false → y i v ≡ false) → Dead n k x a → Dead n k y a
-  dead-stays x y h (no-candidate j l f) = no-candidate j l (λ v e. h (place n a j) v (here j l) (f v e))
-  dead-stays x y h (no-cell d q f) = no-cell d q (λ j l u. h (place n a j) d (here j (omega arith)) (f j l u))
-
   -- No lawful line that fits follows a dead arrangement.
   pub dead-unfollowed : 8 ≤ k → (x : Places) (l : List ℕ) → LawfulLine n l → FitsLine n k x l → Follows n k l a → Dead n k x a → ⊥
   dead-unfollowed high x l law f w (no-candidate j h g) = true≢false (sym (f (place n a j) (here j h)) ∙ g (own k l (place n a j)) (w .each j h))

@@ -2,26 +2,22 @@
 use Prim.Native.Nat.{ℕ, _+_, _-_, _*_, _/_, _%_, _≤_, _<_}
 use mathlib.Core.Path.{_≡_, refl, sym, ap, _∙_, subst}
 use mathlib.Core.Bool.{true, false, cond}
-use mathlib.Core.Logic.{inl, inr}
 use mathlib.Core.List.{List, [], _∷_, List·Memᴰ·head}
 use native.Mathlib.Omega.{arith}
 use lib.ListN.{length, drop}
 use Rattle.tally.specs.Tally.{join}
-use Rattle.tally.specs.TallyLaws.{span-in}
-use Rattle.rules.specs.Line.{digits}
 use Rattle.rules.specs.Mark.{rejects, markRow, markColumn, markValue, marksOf}
 use Rattle.rules.specs.Check.{refusal, checkMark, markChecks}
 use Rattle.checks.specs.CheckLaws.{refusal-none-right}
 use Rattle.table.specs.Table.{Table}
 use Rattle.table.specs.Steps.{struck, taken, marked, markedAll}
-use Rattle.soundness.specs.CellValues.{IsValue, CellValue, cell-value, digit-value, row-black, column-black}
 use Rattle.soundness.specs.Marks.{Accepted, accepted}
 use Rattle.slab.specs.Slab.{tableIn, Sized, Struck, One}
 use Rattle.slab.specs.Ready.{ValueOf}
 use Rattle.set_cell.specs.Setting.{SetHit, SetAsk}
 use Rattle.set_cell.specs.SetLaws.{set-table}
 use Rattle.state.specs.State.{Lagging}
-use Rattle.state.specs.StateLaws.{value-small, one-table, kept-struck, lagging-struck}
+use Rattle.state.specs.StateLaws.{value-of, value-small, one-table, kept-struck, lagging-struck}
 use Rattle.marks.specs.declared.Mark.{Mark}
 use Rattle.marks.specs.Unpacked.{unpacked, wordAt}
 use Rattle.marks.specs.MarkLaws.{marks-next, marks-end, mark-numbered}
@@ -46,15 +42,6 @@ marks-same t u [] i j w e = e
 marks-same t u (m ∷ ms) i j w e = marks-same (marked t m) (marked u m) ms i j w (marked-same t u m i j w e)
 
 -- ---- one mark
-
-value-of : (n v : ℕ) → IsValue n v → ValueOf n v
-unfolding ValueOf digits
-value-of n v m = go (cell-value n v m)
-  where
-    go : CellValue n v → ValueOf n v
-    go (digit-value q h) = inl ((span-in 1 (n - 2) v q) .0, h)
-    go (row-black q h k) = inr (h, omega arith)
-    go (column-black q h k) = inr (omega arith, k)
 
 -- strikes that make the table of a mark apply it
 struck-applied : {n m : ℕ} {l l′ : List ℕ} {Hit : ℕ → ℕ → Type 0} → MarkAsk n l m → Struck l l′ Hit →

@@ -1,5 +1,5 @@
 -- The checks of marking, and the sheet, line by line. Assumes nothing.
-use Prim.Native.Nat.{ℕ, zero, suc, _*_, _≤_}
+use Prim.Native.Nat.{ℕ, zero, suc, _*_}
 use mathlib.Core.Path.{_≡_, refl, sym, ap, _∙_}
 use mathlib.Core.Bool.{Bool, true, false, not, _&&_}
 use mathlib.Core.List.{List, [], _∷_, _++_}
@@ -8,8 +8,8 @@ use lib.ListN.{length, getD}
 use borrow.Author.Tests.{eq-eqb, ne-eqb, eqb-true, not-true, not-false}
 use Rattle.tally.specs.Tally.{all, join, span}
 use Rattle.rules.specs.Line.{meets, lineSum}
-use Rattle.rules.specs.Grid.{Puzzle, Line, target, line, lines}
-use Rattle.rules.specs.Check.{Check, check, refusal, checkLine, checkBuffer, sizeFits, puzzleChecks, sheetChecks}
+use Rattle.rules.specs.Grid.{Puzzle, target, line}
+use Rattle.rules.specs.Check.{Check, refusal, checkLine, checkBuffer, sizeFits, puzzleChecks, sheetChecks}
 use Rattle.rules.specs.Marking.{sheetRight}
 use Rattle.checks.specs.CheckLaws.{refusal-skip, refusal-stop, refusal-none, refusal-none-left, refusal-none-right}
 use Rattle.checks.specs.Strided.{strided, each, checks-each, all-each-line}

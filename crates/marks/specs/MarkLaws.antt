@@ -1,19 +1,17 @@
 -- The marks of a list of bytes, one after the other, and their checks. Assumes nothing.
 use Prim.Native.Nat.{ℕ, zero, suc, _+_, _*_, _%_, _≤_, _<_}
 use mathlib.Core.Path.{_≡_, refl, sym, ap, _∙_}
-use mathlib.Core.Bool.{Bool, true, false, _&&_, cond}
-use mathlib.Core.List.{List, [], _∷_, _++_, map}
-use mathlib.Core.Logic.{_⊎_}
+use mathlib.Core.Bool.{Bool, true, false, cond}
+use mathlib.Core.List.{List, [], _∷_, _++_}
 use native.Mathlib.Omega.{arith}
 use native.Mathlib.Decide.{decLt}
 use native.Mathlib.Nat.{not-suc-le-zero}
-use lib.Dec.{eqb, ltb}
 use lib.ListN.{length, getD, drop, drop-of-length-le}
 use lib.Seq.{drop-cons}
 use borrow.Author.Tests.{eq-eqb, ne-eqb, lt-ltb, le-ltb}
 use Rattle.tally.specs.Tally.{join}
 use Rattle.rules.specs.Mark.{markRow, markColumn, markValue, marksOf}
-use Rattle.rules.specs.Check.{Check, check, refusal, named, checkMark, markChecks}
+use Rattle.rules.specs.Check.{refusal, named, checkMark, markChecks}
 use Rattle.checks.specs.CheckLaws.{numbered, refusal-skip, refusal-stop}
 use Rattle.marks.specs.declared.Mark.{Mark}
 use Rattle.marks.specs.Unpacked.{unpacked, wordAt}

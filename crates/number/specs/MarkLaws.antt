@@ -5,8 +5,7 @@ use mathlib.Core.Bool.{Bool, true, false, not, cond}
 use mathlib.Core.List.{List}
 use native.Mathlib.Omega.{arith}
 use native.Mathlib.Decide.{decLt}
-use lib.Dec.{eqb}
-use Rattle.rules.specs.Mark.{rejects, markRow, markColumn, markValue, has, keepsMark}
+use Rattle.rules.specs.Mark.{rejects, keepsMark}
 
 -- the mark of the other kind on the same value of the same cell
 unfoldable pub opposite : ℕ → ℕ

@@ -2,8 +2,8 @@
 use Prim.Native.Nat.{ℕ, _+_, _≤_, _<_}
 use mathlib.Core.Path.{_≡_, refl, sym, ap, ap₂, _∙_}
 use mathlib.Core.Bool.{Bool, true, false, not, _&&_, true≢false}
-use mathlib.Core.List.{List, [], _∷_, _++_, List·Permᴰ, List·Memᴰ}
-use Rattle.tally.specs.Tally.{all, count}
+use mathlib.Core.List.{List, _∷_, _++_, List·Permᴰ, List·Memᴰ}
+use Rattle.tally.specs.Tally.{all}
 use Rattle.tally.specs.TallyLaws.{and-right, and-map, all-less, all-perm, count-split, count-le, count-ext, count-never, test-ext}
 use Rattle.tally.specs.WayLaws.{all-each}
 use Rattle.rules.specs.Grid.{Puzzle, keeps}

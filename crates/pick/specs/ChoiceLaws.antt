@@ -1,11 +1,9 @@
 -- How many row-half candidates a cell has, by the set bits of its mask, and as the candidates of the table. Assumes nothing.
 use Prim.Native.Nat.{ℕ, zero, suc, _+_, _-_, _*_, _/_, _%_, _^_, _≤_, _<_}
 use mathlib.Core.Path.{_≡_, refl, sym, ap, _∙_}
-use mathlib.Core.Logic.{⊎-elim}
 use mathlib.Core.Bool.{Bool}
 use mathlib.Core.List.{List, [], _∷_}
 use native.Mathlib.Omega.{arith}
-use native.Mathlib.Decide.{ℕ-discrete}
 use lib.Dec.{eqb}
 use lib.ListN.{getD}
 use lib.Bits.{bitAnd, and-lt}
@@ -23,7 +21,7 @@ use Rattle.bits.specs.Sum.{sum}
 use Rattle.bits.specs.SumLaws.{sum-same, sum-none, sum-first}
 use Rattle.slab.specs.Slab.{cand, tableIn}
 use Rattle.slab.specs.SlabLaws.{cand-in, cand-lt}
-use Rattle.slab.specs.Ready.{Ready, ValueOf, ready-valid}
+use Rattle.slab.specs.Ready.{Ready, ready-unused}
 use Rattle.pick.specs.Choice.{rowChoices}
 
 pub choices-most : (l : List ℕ) (x : ℕ) → rowChoices l x ≤ 9
@@ -88,20 +86,11 @@ as-test (suc zero) h = refl
 as-test (suc (suc k)) h = absurd (omega arith)
 
 module _ {n : ℕ} {l : List ℕ} (s : Ready n l) where
-  -- a digit that the size has not is no candidate
-  unused : (x v : ℕ) → n - 1 ≤ v → v < 8 → cand l x v ≡ 0
-  unfolding ValueOf
-  unused x v h g = go (ℕ-discrete (cand l x v) 1)
-    where
-      go : Dec (cand l x v ≡ 1) → cand l x v ≡ 0
-      go (yes e) = absurd (⊎-elim (λ w. omega (arith, w)) (λ w. omega (arith, w)) (ready-valid s x v (omega arith) e .value))
-      go (no e) = omega (arith, cand-lt l x v)
-
   half-sum : (x : ℕ) → sum 1 9 (cand l x) ≡ sum 1 (n - 2) (cand l x) + cand l x 8 + cand l x 9
   half-sum x =
       let e : n - 2 + (9 - n) ≡ 7 = omega (arith, s .size .low, s .size .high) in
       let digit = rw e at (sum-split 1 (n - 2) (9 - n) (cand l x)) in
-      let none = sum-none (1 + (n - 2)) (9 - n) (cand l x) (λ v a b. unused x v (omega (arith, s .size .low)) (omega (arith, s .size .high))) in
+      let none = sum-none (1 + (n - 2)) (9 - n) (cand l x) (λ v a b. ready-unused s x v (omega (arith, s .size .low)) (omega (arith, s .size .high))) in
       omega (arith, blacks (cand l x))
 
   -- A cell has as many row-half candidates as the table has in the row half.

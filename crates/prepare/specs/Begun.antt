@@ -1,29 +1,24 @@
 -- The opened state: its counters are right, its lists hold every grid, and its table is whole. Assumes nothing.
-use Prim.Native.Nat.{ℕ, _+_, _-_, _*_, _/_, _%_, _≤_, _<_}
-use mathlib.Core.Path.{_≡_, refl, sym, ap, _∙_, subst}
-use mathlib.Core.Bool.{Bool, true, false, cond}
-use mathlib.Core.Logic.{_⊎_, inl, inr}
+use Prim.Native.Nat.{ℕ, _+_, _-_, _≤_, _<_}
+use mathlib.Core.Path.{_≡_, sym, ap, _∙_, subst}
+use mathlib.Core.Logic.{inl, inr}
 use mathlib.Core.List.{List, map, List·Memᴰ, Memᴰ·map, Memᴰ·of-map}
 use native.Mathlib.Omega.{arith}
-use lib.Dec.{ltb}
-use lib.ListN.{length, getD}
 use borrow.Author.Tests.{lt-ltb, le-ltb}
 use Rattle.tally.specs.Tally.{span}
 use Rattle.tally.specs.TallyLaws.{span-mem, span-in}
 use Rattle.checks.specs.SizeLaws.{Size}
-use Rattle.rules.specs.Grid.{Line, across, down, index, Puzzle, target}
+use Rattle.rules.specs.Grid.{Line, across, down, index, target}
 use Rattle.rules.specs.Arrangement.{Arrangement, arrangements}
-use Rattle.table.specs.Table.{fits}
-use Rattle.line_laws.specs.GridLines.{GridOf}
 use Rattle.soundness.specs.Marks.{Whole}
-use Rattle.slab.specs.Slab.{cand, tableIn, tail, lag}
+use Rattle.slab.specs.Slab.{cand, tableIn}
 use Rattle.slab.specs.SlabLaws.{cand-lt}
-use Rattle.slab.specs.Ready.{Valid, ValueOf, Ready, ready-grown, Moved}
+use Rattle.slab.specs.Ready.{Valid, ValueOf, ready-grown}
 use Rattle.words.specs.Word.{arrangementOf}
 use Rattle.counters.specs.Families.{halves-moved, places-moved, blacks-moved}
-use Rattle.arcs.specs.Arc.{LineOf, lives, live, Unsupported}
+use Rattle.arcs.specs.Arc.{lives, live, Unsupported}
 use Rattle.fresh.specs.Fresh.{Fresh}
-use Rattle.fresh.specs.FreshLaws.{fresh-lag, fresh-full, fresh-ready, fresh-tail}
+use Rattle.fresh.specs.FreshLaws.{fresh-lag, fresh-full, fresh-ready}
 use Rattle.started.specs.Started.{started-halves, started-places, started-blacks}
 use Rattle.listing.specs.Listing.{targetAt}
 use Rattle.opening.specs.Opening.{Opened}

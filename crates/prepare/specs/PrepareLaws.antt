@@ -1,6 +1,6 @@
 -- Preparing, step by step. Assumes nothing.
 use Prim.Native.Nat.{ℕ, zero, suc, _≤_, _<_}
-use mathlib.Core.Path.{_≡_, refl, sym, ap, _∙_, subst}
+use mathlib.Core.Path.{_≡_, refl, sym, _∙_, subst}
 use mathlib.Core.Bool.{Bool, true, false, true≢false}
 use mathlib.Core.List.{List, [], _∷_, List·Memᴰ}
 use native.Mathlib.Omega.{arith}
@@ -11,24 +11,21 @@ use Rattle.tally.specs.Tally.{all}
 use Rattle.tally.specs.TallyLaws.{and-left, and-right}
 use Rattle.line_laws.specs.Lists.{false-of}
 use Rattle.checks.specs.SizeLaws.{Size, size-in}
-use Rattle.rules.specs.Grid.{Puzzle}
-use Rattle.rules.specs.Check.{refusal, puzzleChecks, markChecks, maxTarget}
-use Rattle.rules.specs.Number.{number}
-use Rattle.table.specs.Table.{left}
+use Rattle.rules.specs.Check.{maxTarget}
 use Rattle.table.specs.Steps.{markedAll}
-use Rattle.settled.specs.EmptyCell.{Empty, empty-left}
+use Rattle.settled.specs.EmptyCell.{empty-left}
 use Rattle.soundness.specs.Marks.{Whole, whole-same, marks-number, marks-kept}
 use Rattle.soundness.specs.Marks as marks
 use Rattle.slab.specs.Slab.{tableIn}
-use Rattle.fresh.specs.Fresh.{Blank, Fresh}
+use Rattle.fresh.specs.Fresh.{Fresh}
 use Rattle.words.specs.Word.{Words}
 use Rattle.listing.specs.Listing.{OpenAsk}
 use Rattle.opening.specs.Opening.{Opened}
 use Rattle.puzzle.specs.Given.{puzzle}
 use Rattle.puzzle.specs.PuzzleLaws.{Accepted, accepted}
 use Rattle.state.specs.State.{Kept, Lagging, Propagable, Propagated}
-use Rattle.marked.specs.Applied.{MarksAsk, MarksApplied}
-use Rattle.prepare.specs.Prepared.{PrepareAsk, Prepared, Marked}
+use Rattle.marked.specs.Applied.{MarksApplied}
+use Rattle.prepare.specs.Prepared.{PrepareAsk, Prepared}
 use Rattle.prepare.specs.Begun.{begun-lagging, begun-kept, begun-whole}
 
 -- each target is in range

@@ -1,20 +1,17 @@
 -- Steps that lose no grid: what the handlers do, one after the other. Assumes nothing.
-use Prim.Native.Nat.{ℕ, suc, _+_, _*_, _/_, _%_, _≤_, _<_}
-use mathlib.Core.Path.{_≡_, refl, sym, ap, _∙_, subst}
-use mathlib.Core.Bool.{Bool, true, false, not, _&&_}
-use mathlib.Core.Logic.{_⊎_, inl, inr}
+use Prim.Native.Nat.{ℕ, _+_, _*_, _≤_, _<_}
+use mathlib.Core.Path.{_≡_, sym, subst}
+use mathlib.Core.Bool.{true}
+use mathlib.Core.Logic.{inl, inr}
 use mathlib.Core.List.{List, List·Memᴰ}
 use native.Mathlib.Omega.{arith}
-use lib.Dec.{eqb, ltb}
-use borrow.Author.Tests.{eq-eqb, lt-ltb}
-use Rattle.tally.specs.Tally.{any}
-use Rattle.tally.specs.TallyLaws.{test-ext, and-both}
+use borrow.Author.Tests.{eq-eqb}
+use Rattle.tally.specs.TallyLaws.{test-ext}
 use Rattle.rules.specs.Grid.{Line, across, down, index, Puzzle, target}
 use Rattle.rules.specs.Mark.{has}
 use Rattle.rules.specs.Arrangement.{arrangements}
-use Rattle.table.specs.Table.{Table, fits, everyValue}
+use Rattle.table.specs.Table.{Table, fits}
 use Rattle.table.specs.Steps.{taken}
-use Rattle.line_laws.specs.Lists.{any-mem}
 use Rattle.line_laws.specs.GridLines.{GridOf, rowOf, columnOf, place-in}
 use Rattle.soundness.specs.CellValues.{IsValue, half-every, has-fits}
 use Rattle.soundness.specs.SameGrids.{SameGrids, same-refl, same-trans, same-ext, Forced, within-fits, shrunk-same}
@@ -24,9 +21,9 @@ use Rattle.soundness.specs.Taken.{taken-same}
 use Rattle.slab.specs.Slab.{cand, tableIn}
 use Rattle.slab.specs.Ready.{Moved}
 use Rattle.words.specs.Word.{arrangementOf}
-use Rattle.arcs.specs.Arc.{lives, live, LineOf, Older, Pruned}
+use Rattle.arcs.specs.Arc.{LineOf, Older, Pruned}
 use Rattle.state.specs.State.{number, candidatesOf, Kept}
-use Rattle.state.specs.StateLaws.{value-small, within-sub, kept-moved}
+use Rattle.state.specs.StateLaws.{candidate-at, value-small, within-sub, kept-moved}
 use Rattle.singles.specs.Reasons.{TableIs, Reason, still, naked, hidden, crossed, Steps, done, step}
 
 -- A step that loses no grid, for each puzzle whose arrangements the state has.
@@ -78,14 +75,6 @@ unfolding LineOf number index
 number-of n (across r) h = inl h
 number-of n (down c) h = inr (omega arith, omega arith)
 
--- a value of the grid is among its candidates
-has-candidate : (n : ℕ) (g : List ℕ) (r c v : ℕ) → n ≤ 9 → r < n → c < n → IsValue n v → has n g r c v ≡ true → candidatesOf n g (r * 9 + c) v ≡ true
-unfolding candidatesOf
-has-candidate n g r c v z hr hc m e =
-    let a : (r * 9 + c) / 9 ≡ r = omega arith in
-    let b : (r * 9 + c) % 9 ≡ c = omega arith in
-    rw (a, b) (and-both (lt-ltb r n hr) (and-both (lt-ltb c n hc) (and-both (any-mem m) e)))
-
 module _ (p : Puzzle) (z : p .size ≤ 9) {l l′ : List ℕ} (pr : Pruned (p .size) l l′) (k : Kept p l) where
   in-old : (g : List ℕ) → GridOf p g → fits (p .size) (tableIn l′) g ≡ true → fits (p .size) (tableIn l) g ≡ true
   in-old g d f = within-fits p z (within-sub (p .size) l l′ z (pr .moved .grown .sub)) g d f
@@ -107,7 +96,7 @@ module _ (p : Puzzle) (z : p .size ≤ 9) {l l′ : List ℕ} (pr : Pruned (p .s
             (λ f. has-fits p z g d (tableIn l′) (λ r c v hr hc m s.
             eq-eqb (cand l′ (r * 9 + c) v) 1
             (pr .holds (candidatesOf (p .size) g) (k .holds g d f) 0 (inl (omega arith)) .has (r * 9 + c) v (value-small (p .size) v z m)
-            (has-candidate (p .size) g r c v z hr hc m s)))) (in-old g d);
+            (candidate-at (p .size) g r c v hr hc z m s)))) (in-old g d);
       }
 
 pub pruned-flow : {n : ℕ} {l l′ : List ℕ} → n ≤ 9 → Pruned n l l′ → Flows n l l′

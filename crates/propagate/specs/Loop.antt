@@ -1,27 +1,23 @@
 -- The loop over the waiting strikes. Assumes nothing.
 use Prim.Native.Nat.{ℕ, zero, suc, _+_, _-_, _*_, _/_, _%_, _^_, _≤_, _<_}
 use mathlib.Core.Path.{_≡_, refl, sym, ap, _∙_, subst}
-use mathlib.Core.Bool.{Bool, true, false, true≢false}
+use mathlib.Core.Bool.{true, false, true≢false}
 use mathlib.Core.Logic.{_≢_}
 use mathlib.Core.List.{List}
 use native.Mathlib.Omega.{arith}
 use native.Mathlib.Nat.{pow-suc, zero-div}
 use native.Mathlib.Decide.{ℕ-discrete}
-use lib.Dec.{eqb}
 use lib.ListN.{length, getD}
 use borrow.Author.Tests.{ne-eqb}
 use Rattle.bits.specs.Bit.{bit}
 use Rattle.bits.specs.BitLaws.{bit-zero, bit-suc}
-use Rattle.bits.specs.Sum.{same}
 use Rattle.bits.specs.SumLaws.{same-no}
-use Rattle.rules.specs.Grid.{Puzzle}
-use Rattle.slab.specs.Slab.{cand, tableIn, tail, entry, waits, lag, Grown}
+use Rattle.slab.specs.Slab.{cand, tableIn, tail, entry, lag}
 use Rattle.slab.specs.SlabLaws.{cand-in}
-use Rattle.slab.specs.Ready.{Valid, Ready, ready-grown, Next, lag-pop}
+use Rattle.slab.specs.Ready.{Valid, ready-grown, Next, lag-pop}
 use Rattle.words.specs.Word.{Words}
 use Rattle.counters.specs.CounterLaws.{next-valid}
-use Rattle.singles.specs.Handling.{Handling}
-use Rattle.state.specs.State.{Kept, Occupied, Counted, Lagging, Emptied, Propagable, Propagated}
+use Rattle.state.specs.State.{Occupied, Lagging, Propagable, Propagated}
 use Rattle.propagate.specs.Flow.{Flows, flows-refl, flows-both}
 use Rattle.propagate.specs.Update.{UpdateAsk, UpdateDone}
 

@@ -1,45 +1,33 @@
 -- Rest: no strike waits, the queue is reset, and the table is closed. Assumes nothing.
 use Prim.Native.Nat.{ℕ, _+_, _-_, _*_, _/_, _%_, _≤_, _<_}
-use mathlib.Core.Path.{_≡_, refl, sym, ap, _∙_, subst}
-use mathlib.Core.Bool.{Bool, true, false, true≢false}
+use mathlib.Core.Path.{_≡_, sym, ap, _∙_, subst}
+use mathlib.Core.Bool.{true, false, true≢false}
 use mathlib.Core.Logic.{_≢_}
 use mathlib.Core.List.{List, List·Memᴰ}
 use native.Mathlib.Omega.{arith}
-use native.Mathlib.Decide.{decLt}
-use lib.Dec.{eqb, ltb, leb}
+use lib.Dec.{eqb}
 use lib.ListN.{length, getD, set, length-set}
 use lib.Seq.{getD-set-same, getD-set-other}
-use borrow.Author.Tests.{eq-eqb, lt-ltb, le-leb}
-use Rattle.bits.specs.Sum.{sum}
+use borrow.Author.Tests.{eq-eqb}
 use Rattle.bits.specs.SumLaws.{sum-same}
 use Rattle.rules.specs.Grid.{Line, across, down, index, Puzzle, target}
 use Rattle.rules.specs.Arrangement.{arrangements}
 use Rattle.table.specs.Table.{places, firstBlack, half}
 use Rattle.table.specs.Closed.{Supported, Closed}
 use Rattle.settled.specs.EmptyCell.{Empty}
-use Rattle.soundness.specs.CellValues.{IsValue, half-every}
-use Rattle.soundness.specs.SameGrids.{SameGrids, same-trans, same-ext}
-use Rattle.slab.specs.Slab.{cand, tableIn, tail, waits, lag, left, Sized}
+use Rattle.soundness.specs.SameGrids.{same-trans, same-ext}
+use Rattle.slab.specs.Slab.{cand, tableIn, tail, waits, lag, left}
 use Rattle.slab.specs.SlabLaws.{cand-lt, cand-same}
-use Rattle.slab.specs.Ready.{Valid, ValueOf, Ready, lag-rest}
-use Rattle.counters.specs.Counters.{Fam, Ruled, IsSet, AllSet, NoBlacks, Halves, LinePlaces, Blacks, halves, linePlaces, cellBlacks}
+use Rattle.slab.specs.Ready.{lag-rest}
+use Rattle.counters.specs.Counters.{Fam, Ruled, AllSet, NoBlacks, Halves, LinePlaces, Blacks, halves, linePlaces, cellBlacks}
 use Rattle.counters.specs.Closure.{AtRest, lone, single, crossed, crossedBack, blacks}
-use Rattle.counters.specs.Lines.{in-half}
-use Rattle.set_cell.specs.SettingLaws.{or-right}
-use Rattle.arcs.specs.Arc.{LineOf, Arc, lives, live}
+use Rattle.arcs.specs.Arc.{lives, live}
 use Rattle.words.specs.Word.{arrangementOf}
 use Rattle.supports.specs.Supports.{Numbered, row-numbered, column-numbered, supported}
 use Rattle.state.specs.State.{number, Kept, Occupied, Counted, Lagging, Propagated}
-use Rattle.state.specs.StateLaws.{Shrunk, arc-same, kept-same}
+use Rattle.state.specs.StateLaws.{value-every, Shrunk, arc-same, kept-same}
 use Rattle.propagate.specs.Flow.{number-of}
 use Rattle.propagate.specs.Loop.{Propagating}
-
-value-every : (n v : ℕ) → n ≤ 9 → ValueOf n v → IsValue n v
-value-every n v z m =
-    elim (decLt v 10) [
-      | yes h ↦ half-every n (across 0) v (in-half n (across 0) v m (lt-ltb v 10 h))
-      | no h ↦ half-every n (down 0) v (in-half n (down 0) v m (or-right (ltb v 8) (leb 10 v) (le-leb 10 v (omega arith))))
-    ]
 
 -- the queue reset, as the code does it
 module _ (l l′ : List ℕ) (size : length l ≡ 5599) (is : l′ ≡ set l 972 0) where

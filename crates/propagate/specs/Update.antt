@@ -1,6 +1,5 @@
 -- Handling one strike. Assumes nothing.
 use Prim.Native.Nat.{ℕ, _+_, _*_, _≤_, _<_}
-use mathlib.Core.Path.{_≡_}
 use mathlib.Core.List.{List}
 use Rattle.slab.specs.Slab.{lag, Grown}
 use Rattle.slab.specs.Ready.{Next}

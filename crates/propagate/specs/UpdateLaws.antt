@@ -1,20 +1,18 @@
 -- Handling one strike: the four handlers after each other. Assumes nothing.
-use Prim.Native.Nat.{ℕ, _+_, _-_, _*_, _/_, _%_, _≤_, _<_}
-use mathlib.Core.Path.{_≡_, refl, sym, ap, _∙_}
-use mathlib.Core.Logic.{_⊎_, inl, inr}
+use Prim.Native.Nat.{ℕ, _+_, _-_, _*_, _≤_, _<_}
+use mathlib.Core.Path.{_≡_, sym}
+use mathlib.Core.Logic.{inl, inr}
 use mathlib.Core.List.{List}
 use native.Mathlib.Omega.{arith}
-use Rattle.bits.specs.Sum.{sum, same}
+use Rattle.bits.specs.Sum.{same}
 use Rattle.bits.specs.SumLaws.{same-yes, sum-has}
 use Rattle.slab.specs.Slab.{cand, tail, entry, waits, lag, Grown}
 use Rattle.slab.specs.StruckLaws.{grown-trans}
-use Rattle.slab.specs.Ready.{ValueOf, Ready, ready-grown, Next, next-grown, Moved}
+use Rattle.slab.specs.Ready.{ready-grown, Next, next-grown, Moved}
 use Rattle.set_cell.specs.SetLaws.{value-range}
-use Rattle.words.specs.Word.{Words}
-use Rattle.counters.specs.Counters.{Halves, LinePlaces, Blacks}
 use Rattle.counters.specs.Families.{halves-moved, places-moved, blacks-moved}
 use Rattle.singles.specs.Handling.{Handling, handling-grown, SingletonAsk, SingletonDone, HiddenAsk, HiddenDone, ConsistencyAsk, ConsistencyDone}
-use Rattle.arcs.specs.Arc.{LineOf, lives, Tallied, Arc, ArcAsk, ArcDone}
+use Rattle.arcs.specs.Arc.{lives, Tallied, Arc, ArcAsk, ArcDone}
 use Rattle.state.specs.State.{Counted}
 use Rattle.state.specs.StateLaws.{tallied-moved, arc-moved}
 use Rattle.propagate.specs.Flow.{flows-both, steps-flow, pruned-flow}

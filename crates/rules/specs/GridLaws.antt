@@ -2,7 +2,7 @@
 use Prim.Native.Nat.{ℕ, _+_, _*_, _<_}
 use mathlib.Core.Path.{_≡_, ap₂, _∙_, subst}
 use mathlib.Core.Bool.{Bool, true, _&&_}
-use mathlib.Core.List.{List, _++_, map, List·Memᴰ, Memᴰ·append-left, Memᴰ·append-right, Memᴰ·map}
+use mathlib.Core.List.{List, map, List·Memᴰ, Memᴰ·append-left, Memᴰ·append-right, Memᴰ·map}
 use native.Mathlib.Omega.{arith}
 use native.Mathlib.Nat.{mul-le-mul-right}
 use Rattle.tally.specs.Tally.{span, all}

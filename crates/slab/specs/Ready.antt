@@ -1,14 +1,16 @@
 -- The state of a size, the strike that is handled next, and what stays while strikes are made. Assumes nothing.
 use Prim.Native.Nat.{ℕ, suc, _+_, _-_, _*_, _/_, _%_, _≤_, _<_}
-use mathlib.Core.Path.{_≡_, refl, sym, ap, _∙_}
-use mathlib.Core.Logic.{_⊎_}
+use mathlib.Core.Path.{_≡_, ap, _∙_}
+use mathlib.Core.Logic.{_⊎_, ⊎-elim}
 use mathlib.Core.List.{List}
 use native.Mathlib.Omega.{arith}
+use native.Mathlib.Decide.{ℕ-discrete}
 use lib.ListN.{getD}
 use Rattle.bits.specs.Sum.{sum, same}
 use Rattle.bits.specs.SumLaws.{sum-first}
 use Rattle.checks.specs.SizeLaws.{Size}
 use Rattle.slab.specs.Slab.{cand, tail, entry, waits, lag, Sized, Grown}
+use Rattle.slab.specs.SlabLaws.{cand-lt}
 use Rattle.slab.specs.StruckLaws.{grown-sized}
 
 -- A value of size n: a digit or a black.
@@ -39,6 +41,15 @@ ready-grown g r =
 pub ready-valid : {n : ℕ} {l : List ℕ} → Ready n l → (x v : ℕ) → v < 16 → cand l x v ≡ 1 → Valid n x v
 unfolding lag
 ready-valid r x v h e = r .proper x v h (omega arith)
+
+-- a digit that the size has not is no candidate
+pub ready-unused : {n : ℕ} {l : List ℕ} → Ready n l → (x v : ℕ) → n - 1 ≤ v → v < 8 → cand l x v ≡ 0
+unfolding ValueOf
+ready-unused {n} {l} s x v h g = go (ℕ-discrete (cand l x v) 1)
+  where
+    go : Dec (cand l x v ≡ 1) → cand l x v ≡ 0
+    go (yes e) = absurd (⊎-elim (λ w. omega (arith, w)) (λ w. omega (arith, w)) (ready-valid s x v (omega arith) e .value))
+    go (no e) = omega (arith, cand-lt l x v)
 
 -- The strike at h, of the candidate v of the cell at place x, is the next to be handled.
 pub record Next (l : List ℕ) (h x v : ℕ) : Type 0 where

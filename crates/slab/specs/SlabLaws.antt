@@ -1,7 +1,6 @@
 -- What a strike does to the candidates, the queue and every lag. Assumes nothing.
 use Prim.Native.Nat.{ℕ, suc, _+_, _-_, _*_, _/_, _%_, _^_, _≤_, _<_}
 use mathlib.Core.Path.{_≡_, refl, sym, ap, _∙_}
-use mathlib.Core.Bool.{Bool, cond}
 use mathlib.Core.List.{List}
 use native.Mathlib.Omega.{arith}
 use native.Mathlib.Decide.{ℕ-discrete, decLt}
@@ -10,9 +9,9 @@ use lib.Seq.{getD-set-same, getD-set-other}
 use borrow.Author.Tests.{lt-ltb, le-ltb}
 use Rattle.bits.specs.Bit.{bit}
 use Rattle.bits.specs.BitLaws.{bit-lt, bit-le, bit-taken, bit-kept, shl-one}
-use Rattle.bits.specs.Sum.{sum, same}
+use Rattle.bits.specs.Sum.{same}
 use Rattle.bits.specs.SumLaws.{same-yes, same-no, sum-same, sum-has, sum-fall, sum-next}
-use Rattle.slab.specs.Slab.{cand, tail, entry, waits, lag, left, Sized, Grown, Struck, One, Strikable}
+use Rattle.slab.specs.Slab.{cand, tail, entry, waits, lag, left, Struck, One, Strikable}
 
 pub cand-in : (l : List ℕ) (x v : ℕ) → x < 81 → cand l x v ≡ bit v (getD l x 0)
 unfolding cand

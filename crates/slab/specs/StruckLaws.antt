@@ -1,14 +1,14 @@
 -- Strikes one after the other. Assumes nothing.
 use Prim.Native.Nat.{ℕ, _+_, _-_, _*_, _/_, _%_, _≤_, _<_}
-use mathlib.Core.Path.{_≡_, refl, sym, ap, _∙_}
+use mathlib.Core.Path.{_≡_, refl, ap, _∙_}
 use mathlib.Core.Logic.{_⊎_, inl, inr, ⊎-elim}
 use mathlib.Core.List.{List}
 use native.Mathlib.Omega.{arith}
 use native.Mathlib.Decide.{ℕ-discrete}
 use native.Mathlib.Nat.{le-trans}
-use lib.ListN.{length, getD, set, length-set}
+use lib.ListN.{getD, set, length-set}
 use lib.Seq.{getD-set-other}
-use Rattle.bits.specs.Sum.{sum, same}
+use Rattle.bits.specs.Sum.{same}
 use Rattle.bits.specs.SumLaws.{sum-same}
 use Rattle.slab.specs.Slab.{cand, tail, entry, waits, lag, left, Sized, Grown, Struck}
 use Rattle.slab.specs.SlabLaws.{cand-lt, cand-same}

@@ -1,18 +1,18 @@
 -- Marks: what accepted ones say, which grids they leave, and which candidates. Assumes nothing.
 use Prim.Native.Nat.{ℕ, _-_, _≤_, _<_}
 use mathlib.Core.Path.{_≡_, refl, sym, ap, _∙_, subst}
-use mathlib.Core.Bool.{true, false, not, _&&_, _||_, cond, true≢false, and-assoc, and-true, or-true}
+use mathlib.Core.Bool.{true, false, not, _&&_, _||_, cond, true≢false, and-assoc, and-true}
 use mathlib.Core.Logic.{_≢_, ⊎-elim}
 use mathlib.Core.List.{List, [], _∷_, List·Memᴰ, List·Memᴰ·head, List·Memᴰ·tail, List·Memᴰ·not-nil, Memᴰ·cast}
 use native.Mathlib.Omega.{arith}
-use native.Mathlib.Decide.{ℕ-discrete, decLt}
+use native.Mathlib.Decide.{ℕ-discrete}
 use lib.Dec.{ltb, leb}
-use borrow.Author.Tests.{ltb-true, leb-true, lt-ltb, le-leb}
+use borrow.Author.Tests.{ltb-true, leb-true}
 use Rattle.tally.specs.Tally.{all, join}
 use Rattle.tally.specs.TallyLaws.{and-left, and-right, and-both, span-mem}
 use Rattle.rules.specs.Line.{digits}
 use Rattle.rules.specs.Grid.{Puzzle, across, down}
-use Rattle.rules.specs.Mark.{rejects, markRow, markColumn, markValue, leftBlack, upperBlack, has, keepsMark, keepsMarks}
+use Rattle.rules.specs.Mark.{rejects, markRow, markColumn, markValue, has, keepsMark, keepsMarks}
 use Rattle.rules.specs.Number.{solves, number}
 use Rattle.rules.specs.Check.{refusal, named, checkMark, markChecks}
 use Rattle.checks.specs.CheckLaws.{numbered, refusal-none, refusal-none-left, refusal-none-right}
@@ -22,9 +22,9 @@ use Rattle.table.specs.Steps.{inRow, inColumn, struck, taken, marked, markedAll
 use Rattle.line_laws.specs.Lists.{false-of, or-split}
 use Rattle.line_laws.specs.Half.{digit-in, first-in, second-in}
 use Rattle.line_laws.specs.GridLines.{GridOf}
-use Rattle.soundness.specs.CellValues.{IsValue, half-every, has-fits}
+use Rattle.soundness.specs.CellValues.{IsValue, half-every}
 use Rattle.soundness.specs.SameGrids.{Within, SameGrids, within-fits, count-grids}
-use Rattle.soundness.specs.Taken.{row-value, column-value, strikes-here, taken-gone, struck-gone, taken-fits, struck-fits}
+use Rattle.soundness.specs.Taken.{strikes-here, taken-gone, struck-gone, taken-fits, struck-fits}
 
 -- ---- accepted marks
 
@@ -104,10 +104,6 @@ pub whole-same : {p : Puzzle} {t u : Table} → SameGrids p t u → Whole p t �
 whole-same s w = record { whole = λ g d. sym (s .same g d) ∙ w .whole g d }
 
 module _ (p : Puzzle) (small : p .size ≤ 9) (t : Table) where
-  -- A table with all candidates is whole.
-  pub full-whole : ((r c v : ℕ) → r < p .size → c < p .size → IsValue (p .size) v → t r c v ≡ true) → Whole p t
-  full-whole h = record { whole = λ g d. has-fits p small g d t (λ r c v hr hc m s. h r c v hr hc m) }
-
   module _ (ms : List ℕ) (a : (m : ℕ) → List·Memᴰ m ms → Accepted (p .size) m) where
     -- After the marks, the number is what is left.
     pub marks-number : Whole p t → number p ms ≡ left p (markedAll t ms)
@@ -141,9 +137,6 @@ unfolding markedAll
 marks-kept t [] i j w e = e
 marks-kept t (m ∷ ms) i j w e = marked-kept t m i j w (marks-kept (marked t m) ms i j w e)
 
-pub marks-within : (n : ℕ) (t : Table) (ms : List ℕ) → Within n (markedAll t ms) t
-marks-within n t ms = record { kept = λ r c v hr hc m e. marks-kept t ms r c v e }
-
 -- what one mark strikes of any table is gone after all of them
 marks-gone : (t : Table) (i j w : ℕ) {m : ℕ} {ms : List ℕ} → List·Memᴰ m ms → ((u : Table) → marked u m i j w ≡ false) → markedAll t ms i j w ≡ false
 unfolding markedAll
@@ -164,20 +157,3 @@ module _ (t : Table) {m : ℕ} {ms : List ℕ} (k : List·Memᴰ m ms) where
   taken-alone e w h ne =
       marks-gone t (markRow m) (markColumn m) w k (λ u. rw e (taken-gone u (markRow m) (markColumn m) (markValue m) (markRow m) (markColumn m) w
       (strikes-here (markRow m) (markColumn m) (markValue m) w h ne)))
-
-  -- A digit is alone in both halves, a row black in the row half, a column black in the column half.
-  pub digit-alone : rejects m ≡ false → markValue m < 8 → (w : ℕ) → w ≢ markValue m → markedAll t ms (markRow m) (markColumn m) w ≡ false
-  digit-alone e l w =
-      taken-alone e w (rw (lt-ltb (markValue m) 10 (omega arith), lt-ltb (markValue m) 8 l) (elim (decLt w 10) [
-        | yes h ↦ rw (lt-ltb w 10 h)
-        | no h ↦ rw (le-leb 10 w (omega arith), or-true (ltb w 8)) (or-true (inRow w))
-      ]))
-
-  pub row-alone : (n : ℕ) → n ≤ 9 → rejects m ≡ false → markValue m < 10 → (w : ℕ) → List·Memᴰ w (half n leftBlack) → w ≢ markValue m →
-      markedAll t ms (markRow m) (markColumn m) w ≡ false
-  row-alone n z e l w q = taken-alone e w (rw (lt-ltb (markValue m) 10 l, row-value n w z q))
-
-  pub column-alone : (n : ℕ) → n ≤ 9 → rejects m ≡ false → 10 ≤ markValue m → (w : ℕ) → List·Memᴰ w (half n upperBlack) → w ≢ markValue m →
-      markedAll t ms (markRow m) (markColumn m) w ≡ false
-  column-alone n z e l w q =
-      taken-alone e w (rw (le-leb 10 (markValue m) l, column-value n w z q, or-true (ltb (markValue m) 8)) (or-true (inRow (markValue m) && inRow w)))

@@ -20,7 +20,7 @@ use Rattle.line_laws.specs.Pigeonhole.{sum-most}
 use Rattle.line_laws.specs.Half.{half-once}
 use Rattle.soundness.specs.CellValues.{half-every}
 use Rattle.soundness.specs.SameGrids.{Within}
-use Rattle.soundness.specs.Taken.{taken-gone, struck-gone, taken-within, struck-within, strikes-here, row-value}
+use Rattle.soundness.specs.Taken.{taken-gone, taken-within, strikes-here, row-value}
 
 -- ---- sums and counts, element by element
 
@@ -129,10 +129,6 @@ open-most n t =
     omega (arith, sum-bits (openAt n t) (span 0 (n * n)), span-length 0 (n * n))
 
 module _ (n : ℕ) (t : Table) (r c v : ℕ) (hr : r < n) (hc : c < n) (m : List·Memᴰ v (half n leftBlack)) where
-  -- A strike leaves fewer candidates.
-  pub struck-total : t r c v ≡ true → total n (struck t r c v) < total n t
-  struck-total e = total-less n (struck-within n t r c v) r c hr hc v m e (struck-gone t r c v)
-
   taken-choices : n ≤ 9 → choices n leftBlack (taken t r c v r c) ≤ 1
   unfolding choices Once
   taken-choices z =

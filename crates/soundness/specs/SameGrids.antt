@@ -33,9 +33,6 @@ pub record SameGrids (p : Puzzle) (t u : Table) : Type 0 where
 pub same-refl : (p : Puzzle) (t : Table) → SameGrids p t t
 same-refl p t = record { same = λ g d. refl }
 
-pub same-sym : {p : Puzzle} {t u : Table} → SameGrids p t u → SameGrids p u t
-same-sym a = record { same = λ g d. sym (a .same g d) }
-
 pub same-trans : {p : Puzzle} {s t u : Table} → SameGrids p s t → SameGrids p t u → SameGrids p s u
 same-trans a b = record { same = λ g d. a .same g d ∙ b .same g d }
 
@@ -64,22 +61,10 @@ pub record Unused (p : Puzzle) (t : Table) (r c v : ℕ) : Type 0 where
 pub record Forced (p : Puzzle) (t : Table) (r c v : ℕ) : Type 0 where
   pub forced : (g : List ℕ) → GridOf p g → fits (p .size) t g ≡ true → has (p .size) g r c v ≡ true
 
-pub unused-same : {p : Puzzle} {t u : Table} {r c v : ℕ} → SameGrids p t u → Unused p t r c v → Unused p u r c v
-unused-same s a = record { unused = λ g d f. a .unused g d (s .same g d ∙ f) }
-
-pub forced-same : {p : Puzzle} {t u : Table} {r c v : ℕ} → SameGrids p t u → Forced p t r c v → Forced p u r c v
-forced-same s a = record { forced = λ g d f. a .forced g d (s .same g d ∙ f) }
-
 module _ (p : Puzzle) (small : p .size ≤ 9) where
   -- What fits a smaller table fits the table.
   pub within-fits : {u t : Table} → Within (p .size) u t → (g : List ℕ) → GridOf p g → fits (p .size) u g ≡ true → fits (p .size) t g ≡ true
   within-fits {u} {t} w g d f = has-fits p small g d t (λ r c v hr hc m s. w .kept r c v hr hc m (fits-has p small g d u f r c v hr hc m s))
-
-  pub unused-within : {u t : Table} {r c v : ℕ} → Within (p .size) u t → Unused p t r c v → Unused p u r c v
-  unused-within w a = record { unused = λ g d f. a .unused g d (within-fits w g d f) }
-
-  pub forced-within : {u t : Table} {r c v : ℕ} → Within (p .size) u t → Forced p t r c v → Forced p u r c v
-  forced-within w a = record { forced = λ g d f. a .forced g d (within-fits w g d f) }
 
   -- Striking unused candidates loses no grid.
   pub shrunk-same : {u t : Table} → Within (p .size) u t →

@@ -20,7 +20,7 @@ use Rattle.line_laws.specs.Lists.{false-of, or-split}
 use Rattle.line_laws.specs.Half.{HalfValue, a-digit, a-first, a-second, half-value, digit-in}
 use Rattle.line_laws.specs.GridLines.{rowOf, columnOf, place-in, GridOf}
 use Rattle.soundness.specs.CellValues.{IsValue, InHalf, valueAt, hasAt, CellValue, digit-value, row-black, column-black, cell-value, half-every, by-line, has-own, value-in, value-has, once-in-cell, once-in-line, has-black, second-behind, first-before, fits-has, has-fits}
-use Rattle.soundness.specs.SameGrids.{Within, SameGrids, Unused, Forced, within-fits, count-grids}
+use Rattle.soundness.specs.SameGrids.{Within, SameGrids, Forced, within-fits, count-grids}
 
 -- ---- what setting a cell strikes
 
@@ -229,10 +229,6 @@ module _ (p : Puzzle) (small : p .size ≤ 9) (t : Table) (r c v : ℕ) (hr : r 
       let y = and-right (eqb i r) _ q in
       let e : has n g r c v ≡ true = rw (eqb-true i r (and-left _ _ q), eqb-true j c (and-left _ _ y), eqb-true w v (and-right (eqb j c) _ y)) at s in
       true≢false (sym e ∙ not-true (has n g r c v) (and-right (fits n t g) _ f)))))))
-
-  -- Setting a forced value strikes only candidates that no grid has, so no grid is lost.
-  pub strikes-unused : Forced p t r c v → (i j w : ℕ) → i < p .size → j < p .size → IsValue (p .size) w → strikes r c v i j w ≡ true → Unused p t i j w
-  strikes-unused a i j w hi hj mw q = record { unused = λ g d f. strikes-has p small g d v r c i j w hr hc hi hj m mw (a .forced g d f) q }
 
   pub taken-same : Forced p t r c v → SameGrids p t (taken t r c v)
   taken-same a =

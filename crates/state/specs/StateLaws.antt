@@ -1,35 +1,37 @@
 -- What stays while only some counters move. Assumes nothing.
-use Prim.Native.Nat.{ℕ, _+_, _*_, _/_, _%_, _≤_, _<_}
+use Prim.Native.Nat.{ℕ, _+_, _-_, _*_, _/_, _%_, _≤_, _<_}
 use mathlib.Core.Path.{_≡_, refl, sym, ap, _∙_, subst}
-use mathlib.Core.Bool.{Bool, true, false, not, _&&_, true≢false}
-use mathlib.Core.Logic.{_⊎_, inl, inr, ⊎-elim}
+use mathlib.Core.Bool.{Bool, true, false, not, _&&_}
+use mathlib.Core.Logic.{_⊎_, inl, inr}
 use mathlib.Core.List.{List, List·Memᴰ}
 use native.Mathlib.Omega.{arith}
-use native.Mathlib.Decide.{ℕ-discrete}
-use lib.Dec.{eqb, ltb}
-use lib.ListN.{length, getD}
-use borrow.Author.Tests.{eqb-true, eq-eqb, ne-eqb, ltb-true}
+use native.Mathlib.Decide.{ℕ-discrete, decLt}
+use lib.Dec.{eqb, ltb, leb}
+use lib.ListN.{getD}
+use borrow.Author.Tests.{eqb-true, eq-eqb, ne-eqb, ltb-true, lt-ltb, le-leb}
 use Rattle.tally.specs.Tally.{any}
-use Rattle.tally.specs.TallyLaws.{and-left, and-right}
-use Rattle.rules.specs.Grid.{Line, across, down, index, Puzzle, target}
+use Rattle.tally.specs.TallyLaws.{and-left, and-right, and-both}
+use Rattle.rules.specs.Grid.{across, down, Puzzle, target}
 use Rattle.rules.specs.Mark.{has}
 use Rattle.rules.specs.Arrangement.{arrangements}
 use Rattle.table.specs.Table.{everyValue, fits}
-use Rattle.line_laws.specs.Lists.{any-in}
+use Rattle.line_laws.specs.Lists.{any-in, any-mem}
+use Rattle.line_laws.specs.Half.{digit-range}
 use Rattle.line_laws.specs.GridLines.{GridOf}
-use Rattle.soundness.specs.CellValues.{IsValue, CellValue, cell-value, digit-value, row-black, column-black, fits-has}
+use Rattle.soundness.specs.CellValues.{IsValue, CellValue, cell-value, digit-value, row-black, column-black, half-every, fits-has}
 use Rattle.soundness.specs.SameGrids.{Within, within-fits}
 use Rattle.table.specs.Steps.{struck}
 use Rattle.set_cell.specs.SetLaws.{yes-table, no-table}
-use Rattle.bits.specs.Sum.{sum}
+use Rattle.set_cell.specs.SettingLaws.{or-right}
+use Rattle.counters.specs.Lines.{in-half}
 use Rattle.bits.specs.SumLaws.{sum-same}
 use Rattle.slab.specs.Slab.{cand, tableIn, tail, lag, Grown, Struck, One}
 use Rattle.slab.specs.SlabLaws.{cand-lt}
-use Rattle.slab.specs.Ready.{Ready, ready-grown, Moved}
+use Rattle.slab.specs.Ready.{ValueOf, ready-grown, Moved}
 use Rattle.words.specs.Word.{arrangementOf, wordOf, part}
 use Rattle.counters.specs.CounterLaws.{moved-struck}
 use Rattle.counters.specs.Families.{halves-moved, places-moved, blacks-moved}
-use Rattle.arcs.specs.Arc.{cellAt, blackAt, LineOf, lives, live, support, Tallied, Served, Alive, Arc, Held, Holding}
+use Rattle.arcs.specs.Arc.{cellAt, blackAt, lives, live, support, Tallied, Alive, Arc, Held}
 use Rattle.state.specs.State.{number, candidatesOf, Kept, Occupied, Lagging}
 
 -- ---- tables that shrink
@@ -41,6 +43,31 @@ value-small n v z m = go (cell-value n v m)
     go (digit-value q h) = omega arith
     go (row-black q l h) = omega arith
     go (column-black q l h) = omega arith
+
+-- the values of a cell, as the state has them and as the rules have them
+pub value-of : (n v : ℕ) → IsValue n v → ValueOf n v
+unfolding ValueOf
+value-of n v m = go (cell-value n v m)
+  where
+    go : CellValue n v → ((1 ≤ v) × (v < n - 1)) ⊎ ((8 ≤ v) × (v < 12))
+    go (digit-value q h) = inl (digit-range n v q)
+    go (row-black q l h) = inr (l, omega arith)
+    go (column-black q l h) = inr (omega arith, h)
+
+pub value-every : (n v : ℕ) → n ≤ 9 → ValueOf n v → IsValue n v
+value-every n v z m =
+    elim (decLt v 10) [
+      | yes h ↦ half-every n (across 0) v (in-half n (across 0) v m (lt-ltb v 10 h))
+      | no h ↦ half-every n (down 0) v (in-half n (down 0) v m (or-right (ltb v 8) (leb 10 v) (le-leb 10 v (omega arith))))
+    ]
+
+-- a candidate of a grid
+pub candidate-at : (n : ℕ) (g : List ℕ) (r c v : ℕ) → r < n → c < n → n ≤ 9 → IsValue n v → has n g r c v ≡ true → candidatesOf n g (r * 9 + c) v ≡ true
+unfolding candidatesOf
+candidate-at n g r c v hr hc z m e =
+    let a : (r * 9 + c) / 9 ≡ r = omega arith in
+    let b : (r * 9 + c) % 9 ≡ c = omega arith in
+    rw (a, b) (and-both (lt-ltb r n hr) (and-both (lt-ltb c n hc) (and-both (any-mem m) e)))
 
 pub table-kept : (l l′ : List ℕ) → ((x v : ℕ) → v < 16 → cand l′ x v ≤ cand l x v) → (r c v : ℕ) → v < 16 → tableIn l′ r c v ≡ true → tableIn l r c v ≡ true
 unfolding tableIn

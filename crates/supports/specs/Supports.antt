@@ -2,11 +2,11 @@
 use Prim.Native.Nat.{ℕ, zero, suc, _+_, _-_, _/_, _≤_, _<_}
 use mathlib.Core.Path.{_≡_, refl, sym, ap, _∙_, subst}
 use mathlib.Core.Logic.{_⊎_, inl, inr}
-use mathlib.Core.Bool.{Bool, true, false, cond, true≢false}
+use mathlib.Core.Bool.{true, false, true≢false}
 use mathlib.Core.List.{List, List·Memᴰ}
 use native.Mathlib.Omega.{arith}
 use native.Mathlib.Decide.{ℕ-discrete, decLt}
-use lib.Dec.{eqb, ltb}
+use lib.Dec.{eqb}
 use borrow.Author.Tests.{lt-ltb, le-ltb, eq-eqb, eqb-true}
 use Rattle.bits.specs.Sum.{sum}
 use Rattle.checks.specs.SizeLaws.{Size}
@@ -21,6 +21,7 @@ use Rattle.words.specs.Word.{sizeIn, Known, arrangementOf, wordOf, fromOf, toOf
 use Rattle.words.specs.PatternLaws.{part-lt, part-yes, part-pattern, pattern-beyond}
 use Rattle.words.specs.WordLaws.{known-fits, known-steps, known-shaped}
 use Rattle.words.specs.Arranged.{known-length, place-in, steps-place, pattern-allows, allows-some}
+use Rattle.arcs.specs.KillLaws.{black-low, black-high}
 use Rattle.arcs.specs.Arc.{cellAt, blackAt, InHalf, lives, live, Alive, Arc}
 
 -- ---- lines by number
@@ -39,14 +40,6 @@ unfolding blackAt firstBlack places tableIn cellAt
 column-numbered c =
     let e : 9 + c - 9 ≡ c = omega arith in
     record { black = rw (le-ltb (9 + c) 9 (omega arith)); cells = λ l p v. rw (le-ltb (9 + c) 9 (omega arith), e) }
-
-black-range : (k : ℕ) → (8 ≤ blackAt k) × (blackAt k ≤ 10)
-unfolding blackAt
-black-range k = go (ltb k 9)
-  where
-    go : (b : Bool) → (8 ≤ cond b 8 10) × (cond b 8 10 ≤ 10)
-    go true = (omega arith, omega arith)
-    go false = (omega arith, omega arith)
 
 half-range : (n k v : ℕ) → n ≤ 9 → k ≤ 10 → List·Memᴰ v (half n k) → (v < 16) × InHalf k v
 unfolding InHalf
@@ -78,7 +71,7 @@ module _ (n k id : ℕ) (z : Size n) (y : Known n id) where
         within = omega (arith, reach, known-length n id z y);
         there = steps-place n id z y p h;
         allowed =
-            sym (pattern-allows n id z y (blackAt k) (steps n (fromOf (wordOf n id)) p) v (black-range k .0) reach)
+            sym (pattern-allows n id z y (blackAt k) (steps n (fromOf (wordOf n id)) p) v (black-low k) reach)
             ∙ ap (λ q. pattern (blackAt k) (wordOf n id) q v) (steps-place n id z y p h)
             ∙ has;
       }
@@ -91,7 +84,7 @@ module _ (n k id : ℕ) (z : Size n) (y : Known n id) where
         where
           go : Dec (steps n (fromOf (wordOf n id)) (toOf (wordOf n id)) < steps n (fromOf (wordOf n id)) p) →
               steps n (fromOf (wordOf n id)) p < sizeIn (id / 9) + 2
-          go (yes b) = absurd (true≢false (sym has ∙ pattern-beyond n (blackAt k) (wordOf n id) (known-shaped n id z y) (black-range k .0) p v h b))
+          go (yes b) = absurd (true≢false (sym has ∙ pattern-beyond n (blackAt k) (wordOf n id) (known-shaped n id z y) (black-low k) p v h b))
           go (no b) = omega (arith, known-steps n id z y)
 
   -- where no strike waits it is live if each of its places is served
@@ -105,8 +98,8 @@ module _ (n k id : ℕ) (z : Size n) (y : Known n id) where
       at j b =
           let p = place n (arrangementOf n id) j in
           let allowed : (v : ℕ) → pattern (blackAt k) (wordOf n id) p v ≡ allows (blackAt k) (arrangementOf n id) j v =
-          λ v. pattern-allows n id z y (blackAt k) j v (black-range k .0) b in
-          let u = allows-some n id z y (blackAt k) j (omega (arith, black-range k .1)) b in
+          λ v. pattern-allows n id z y (blackAt k) j v (black-low k) b in
+          let u = allows-some n id z y (blackAt k) j (omega (arith, black-high k)) b in
           let s =
           a p (u .0) (place-in n id z y j (omega (arith, known-fits n id z y))) (u .1)
           (part-yes (blackAt k) (wordOf n id) p (u .0) (allowed (u .0) ∙ u .2)) in
@@ -128,7 +121,7 @@ supported n ℓ k l h t z o a w listed i v hi m e =
     f j = part (blackAt k) (wordOf n (live l k j)) i v
 
     range : (v < 16) × InHalf (blackAt k) v
-    range = half-range n (blackAt k) v (z .high) (black-range k .1) (subst (λ b. List·Memᴰ v (half n b)) (sym (o .black)) m)
+    range = half-range n (blackAt k) v (z .high) (black-high k) (subst (λ b. List·Memᴰ v (half n b)) (sym (o .black)) m)
 
     positive : sum 0 (lives l k) f ≡ 0 → ⊥
     positive q =

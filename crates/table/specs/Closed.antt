@@ -3,12 +3,12 @@ use Prim.Native.Nat.{ℕ, suc, _+_, _-_, _<_}
 use mathlib.Core.Path.{_≡_}
 use mathlib.Core.Logic.{_≢_}
 use mathlib.Core.Bool.{Bool, true, false, _||_, cond}
-use mathlib.Core.List.{List, List·Memᴰ}
+use mathlib.Core.List.{List·Memᴰ}
 use lib.Dec.{eqb, ltb}
 use lib.ListN.{length}
 use Rattle.tally.specs.Tally.{any}
 use Rattle.rules.specs.Line.{digits}
-use Rattle.rules.specs.Grid.{Line, across, down, index, Puzzle, target}
+use Rattle.rules.specs.Grid.{Line, index, Puzzle, target}
 use Rattle.rules.specs.Mark.{leftBlack, rightBlack, upperBlack, lowerBlack}
 use Rattle.rules.specs.Arrangement.{Arrangement, arrangements}
 use Rattle.table.specs.Table.{Table, Places, places, firstBlack, half}

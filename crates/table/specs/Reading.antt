@@ -1,13 +1,13 @@
 -- Reading a table: how many candidates a half has, and the grid of a settled table. Assumes nothing.
 use Prim.Native.Nat.{ℕ, _*_, _/_, _%_, _<_}
 use mathlib.Core.Path.{_≡_}
-use mathlib.Core.Bool.{Bool, true, cond}
-use mathlib.Core.List.{List, [], _∷_, map, List·Memᴰ}
+use mathlib.Core.Bool.{Bool, cond}
+use mathlib.Core.List.{List, [], _∷_, map}
 use lib.Dec.{ltb}
 use Rattle.tally.specs.Tally.{span, sum, count}
 use Rattle.rules.specs.Line.{black, digits}
 use Rattle.rules.specs.Mark.{leftBlack, upperBlack}
-use Rattle.table.specs.Table.{Table, half, everyValue}
+use Rattle.table.specs.Table.{Table, half}
 
 -- The first element that passes a test, or d.
 unfoldable pub first : (ℕ → Bool) → ℕ → List ℕ → ℕ
@@ -25,10 +25,6 @@ readCell n cands = first cands black (digits n)
 -- The grid of a settled table.
 unfoldable pub readOff : ℕ → Table → List ℕ
 readOff n t = map (λ i. readCell n (t (i / n) (i % n))) (span 0 (n * n))
-
--- A table has no candidates besides the values of size n.
-unfoldable pub Proper : ℕ → Table → Type 0
-Proper n t = (r c v : ℕ) → r < n → c < n → t r c v ≡ true → List·Memᴰ v (everyValue n)
 
 -- Each half has one candidate.
 pub record AllSettled (n : ℕ) (t : Table) : Type 0 where

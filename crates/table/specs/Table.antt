@@ -1,6 +1,6 @@
 -- Candidate tables: which values a cell may still have, and which grids fit. Assumes nothing.
 use Prim.Native.Nat.{ℕ, suc, _+_, _-_, _/_, _%_, _^_}
-use mathlib.Core.Bool.{Bool, true, _&&_, cond}
+use mathlib.Core.Bool.{Bool, _&&_, cond}
 use mathlib.Core.List.{List, [], _∷_, _++_}
 use lib.Dec.{eqb, ltb}
 use lib.ListN.{getD, take}

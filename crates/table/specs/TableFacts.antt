@@ -1,12 +1,11 @@
 -- The definitions on tables, computed at small cases. Assumes nothing.
-use Prim.Native.Nat.{ℕ, _/_, _%_}
+use Prim.Native.Nat.{_/_, _%_}
 use mathlib.Core.Path.{_≡_, refl}
-use mathlib.Core.Bool.{Bool, true, false}
+use mathlib.Core.Bool.{Bool, true}
 use mathlib.Core.List.{List, [], _∷_, map}
-use lib.ListN.{length}
 use Rattle.tally.specs.Tally.{span, sum, all, any, count, inFront, ways, keep, join}
 use Rattle.rules.specs.Line.{digits, lawful, untilBlack, inside, lineSum, meets, keepsLine}
-use Rattle.rules.specs.Grid.{Puzzle, cell, row, column, line, lines, target, keeps}
+use Rattle.rules.specs.Grid.{cell, row, column, line, lines, target, keeps}
 use Rattle.rules.specs.Mark.{rejects}
 use Rattle.rules.specs.Number.{symbols, grids}
 use Rattle.rules.specs.Arrangement.{subsets, subsetsWith, fromStarts, insides, outsides, arrangements}

@@ -1,14 +1,14 @@
 -- Laws of tests, counting and ways. Assumes nothing.
 use Prim.Native.Nat.{ℕ, zero, suc, _+_, _≤_, _<_, zero-le}
-use mathlib.Core.Path.{_≡_, refl, sym, ap, ap₂, _∙_, subst, fun-ext}
-use mathlib.Core.Bool.{Bool, true, false, not, _&&_, and-assoc, true≢false}
+use mathlib.Core.Path.{_≡_, refl, sym, ap, ap₂, _∙_, fun-ext}
+use mathlib.Core.Bool.{Bool, true, false, not, _&&_, and-assoc}
 use mathlib.Core.List.{List, [], _∷_, _++_, map, List·Permᴰ, List·Permᴰ·nil, List·Permᴰ·cons, List·Permᴰ·swap, List·Permᴰ·trans, List·Memᴰ, List·Memᴰ·head, List·Memᴰ·tail, List·Memᴰ·not-nil}
-use native.Mathlib.Nat.{add-le-add, le-refl, eq-or-lt-of-le, not-suc-le-zero, le-of-suc-le-suc, suc-add}
+use native.Mathlib.Nat.{add-le-add, le-refl, eq-or-lt-of-le}
 use mathlib.Core.Logic.{⊎-elim}
 use native.Mathlib.Omega.{arith}
 use native.Mathlib.Decide.{ℕ-discrete}
 use lib.Dec.{eqb}
-use lib.ListN.{length, take, getD}
+use lib.ListN.{length}
 use borrow.Author.Tests.{eqb-true, eq-eqb, ne-eqb}
 use Rattle.tally.specs.Tally.{bit, sum, all, count, inFront, ways, span}
 
@@ -49,11 +49,6 @@ bit-le true b h = rw (h refl) (le-refl 1)
 bit-le false b h = zero-le
 
 module _ {A : Type 0} where
-  pub all-map : {p q : A → Bool} → ((x : A) → p x ≡ true → q x ≡ true) → (xs : List A) → all p xs ≡ true → all q xs ≡ true
-  unfolding all
-  all-map h [] t = refl
-  all-map h (x ∷ xs) t = and-map (h x) (all-map h xs) t
-
   pub all-append : (p : A → Bool) (xs ys : List A) → all p (xs ++ ys) ≡ (all p xs && all p ys)
   unfolding all
   all-append p [] ys = refl
@@ -222,14 +217,3 @@ pub span-length : (a k : ℕ) → length (span a k) ≡ k
 unfolding span
 span-length a zero = refl
 span-length a (suc k) = ap suc (span-length (suc a) k)
-
--- one element more
-pub count-next : (p : ℕ → Bool) (l : List ℕ) (i : ℕ) → i < length l → count p (take (i + 1) l) ≡ count p (take i l) + bit (p (getD l i 0))
-unfolding count
-count-next p [] i h = absurd (not-suc-le-zero h)
-count-next p (x ∷ l) zero h = omega arith
-count-next p (x ∷ l) (suc i) h = rw suc-add (omega (arith, count-next p l i (le-of-suc-le-suc h)))
-
-pub count-zero : (p : ℕ → Bool) → count p [] ≡ 0
-unfolding count
-count-zero p = refl

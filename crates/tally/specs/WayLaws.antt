@@ -1,14 +1,14 @@
 -- What holds of each way. Assumes nothing.
-use Prim.Native.Nat.{ℕ, zero, suc, _+_, _*_, _≤_, _<_}
+use Prim.Native.Nat.{ℕ, zero, suc, _+_, _≤_, _<_}
 use mathlib.Core.Path.{_≡_, refl, sym, ap, ap₂, _∙_, subst}
 use mathlib.Core.Bool.{Bool, true, false, not, _&&_, true≢false}
-use mathlib.Core.List.{List, [], _∷_, _++_, map, List·Memᴰ, List·Memᴰ·head, List·Memᴰ·tail, List·Memᴰ·not-nil}
+use mathlib.Core.List.{List, [], _∷_, map, List·Memᴰ, List·Memᴰ·head, List·Memᴰ·tail}
 use native.Mathlib.Nat.{le-of-suc-le-suc, not-suc-le-zero}
 use native.Mathlib.Omega.{arith}
 use native.Mathlib.Decide.{decLt}
 use lib.ListN.{length, getD}
-use Rattle.tally.specs.Tally.{bit, sum, all, count, inFront, ways, span}
-use Rattle.tally.specs.TallyLaws.{and-left, and-right, and-both, all-append, count-split, count-le, count-ways, count-inFront, count-one, count-same, same, same-refl, same-eq, test-ext, Once, Way, done, put}
+use Rattle.tally.specs.Tally.{bit, sum, all, count, inFront, ways}
+use Rattle.tally.specs.TallyLaws.{and-left, and-right, and-both, all-append, count-split, count-le, count-inFront, count-one, count-same, same, same-refl, same-eq, Once, Way, done, put}
 
 module _ {A : Type 0} where
   -- what holds of all elements holds of each

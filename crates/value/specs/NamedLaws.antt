@@ -1,12 +1,11 @@
 -- The values that a mark may name, range by range. Assumes nothing.
 use Prim.Native.Nat.{ℕ, _-_, _≤_, _<_}
-use mathlib.Core.Path.{_≡_, refl}
-use mathlib.Core.Bool.{Bool, true, false, _&&_}
+use mathlib.Core.Path.{_≡_}
+use mathlib.Core.Bool.{true, false}
 use native.Mathlib.Omega.{arith}
 use lib.Dec.{leb}
 use borrow.Author.Tests.{le-leb, lt-leb}
 use Rattle.rules.specs.Check.{named}
-use Rattle.checks.specs.SizeLaws.{Size}
 
 module _ (n v : ℕ) where
   pub named-zero : v < 1 → false ≡ named n v

@@ -1,24 +1,22 @@
 -- The pattern of a word is that of its arrangement. Assumes nothing.
 use Prim.Native.Nat.{ℕ, zero, suc, _+_, _-_, _/_, _%_, _≤_, _<_}
 use mathlib.Core.Path.{_≡_, refl, sym, ap, _∙_}
-use mathlib.Core.Bool.{Bool, true, false, _&&_, _||_, cond, true≢false}
+use mathlib.Core.Bool.{Bool, true, false, _||_, cond, true≢false}
 use mathlib.Core.List.{List, [], _∷_, List·Memᴰ, List·Memᴰ·head, List·Memᴰ·tail}
 use native.Mathlib.Omega.{arith}
 use native.Mathlib.Decide.{decLt, decLe, ℕ-discrete}
 use lib.Dec.{eqb, ltb}
 use lib.ListN.{length, getD}
-use borrow.Author.Tests.{lt-ltb, le-ltb, le-leb, lt-leb, eq-eqb, ne-eqb, eqb-true}
+use borrow.Author.Tests.{lt-ltb, le-ltb, le-leb, lt-leb, eq-eqb, ne-eqb}
 use Rattle.tally.specs.Tally.{span, any, keep}
-use Rattle.tally.specs.TallyLaws.{and-left, and-right, and-both, test-ext}
 use Rattle.bits.specs.Bit.{bit}
 use Rattle.bits.specs.BitLaws.{bit-zero}
 use Rattle.table.specs.Closed.{place, allows}
-use Rattle.table.specs.Steps.{lays}
 use Rattle.checks.specs.SizeLaws.{Size}
 use Rattle.words.specs.Word.{maskIn, sizeIn, digitsOf, arrangementOf, Known, wordOf, pattern, coveredOf, fromOf, toOf, steps}
 use Rattle.words.specs.WordFacts.{subset-size, mask-even}
 use Rattle.words.specs.StepLaws.{steps-on, steps-back, steps-none, steps-same, steps-lt}
-use Rattle.words.specs.PatternLaws.{pattern-head, pattern-last, pattern-inner, pattern-inner-black, pattern-beyond, covered-on, covered-off}
+use Rattle.words.specs.PatternLaws.{pattern-head, pattern-last, pattern-inner, pattern-inner-black, covered-on}
 use Rattle.words.specs.WordLaws.{Fields, known-subset, known-fits, known-fields, known-steps, known-shaped}
 
 or-yes : (a : Bool) → (a || true) ≡ true
@@ -238,39 +236,6 @@ module _ (n id : ℕ) (z : Size n) (y : Known n id) where
           (pattern-inner-black n k (wordOf n id) (known-shaped n id z y) h _ (place-in j (omega (arith, fits)))
           (omega (arith, place-steps j (omega (arith, fits)))) (omega (arith, place-steps j (omega (arith, fits)), known-steps n id z y)) v (omega arith))
 
-  -- the pattern has the value v at place p where the arrangement lays it there
-  pub pattern-lays : (k p v : ℕ) → 8 ≤ k → p < n → pattern k (wordOf n id) p v ≡ lays n k p v (arrangementOf n id)
-  unfolding lays
-  pattern-lays k p v h hp =
-      test-ext (pattern k (wordOf n id) p v) _
-      (λ t. any-yes test 0 (length (arrangementOf n id .digitSet) + 2) (steps n (fromOf (wordOf n id)) p) (omega arith)
-      (in-reach t (decLt (sizeIn (id / 9) + 1) (steps n (fromOf (wordOf n id)) p)))
-      (there t (decLt (sizeIn (id / 9) + 1) (steps n (fromOf (wordOf n id)) p))))
-      (λ t. let r = any-find test 0 (length (arrangementOf n id .digitSet) + 2) t in back (r .0) (r .1 .1) (r .2))
-    where
-      test : ℕ → Bool
-      test j = eqb (place n (arrangementOf n id) j) p && allows k (arrangementOf n id) j v
-
-      beyond : sizeIn (id / 9) + 1 < steps n (fromOf (wordOf n id)) p → pattern k (wordOf n id) p v ≡ false
-      beyond l = pattern-beyond n k (wordOf n id) (known-shaped n id z y) h p v hp (omega (arith, known-steps n id z y))
-
-      in-reach : pattern k (wordOf n id) p v ≡ true → Dec (sizeIn (id / 9) + 1 < steps n (fromOf (wordOf n id)) p) →
-          steps n (fromOf (wordOf n id)) p < 0 + (length (arrangementOf n id .digitSet) + 2)
-      in-reach t (yes l) = absurd (true≢false (sym t ∙ beyond l))
-      in-reach t (no l) = omega (arith, known-length)
-
-      there : pattern k (wordOf n id) p v ≡ true → Dec (sizeIn (id / 9) + 1 < steps n (fromOf (wordOf n id)) p) → test (steps n (fromOf (wordOf n id)) p) ≡ true
-      there t (yes l) = absurd (true≢false (sym t ∙ beyond l))
-      there t (no l) =
-          and-both (eq-eqb _ p (steps-place p hp))
-          (sym (pattern-allows k _ v h (omega arith)) ∙ ap (λ q. pattern k (wordOf n id) q v) (steps-place p hp) ∙ t)
-
-      back : (j : ℕ) → j < 0 + (length (arrangementOf n id .digitSet) + 2) → test j ≡ true → pattern k (wordOf n id) p v ≡ true
-      back j l t =
-          let e = eqb-true (place n (arrangementOf n id) j) p (and-left _ _ t) in
-          let q = and-right (eqb (place n (arrangementOf n id) j) p) (allows k (arrangementOf n id) j v) t in
-          ap (λ q. pattern k (wordOf n id) q v) (sym e) ∙ pattern-allows k j v h (omega (arith, known-length)) ∙ q
-
   -- each cell of the arrangement may have something
   pub allows-some : (k j : ℕ) → k < 15 → j < sizeIn (id / 9) + 2 → (v : ℕ) × (v < 16) × (allows k (arrangementOf n id) j v ≡ true)
   unfolding allows
@@ -314,11 +279,3 @@ module _ (n id : ℕ) (z : Size n) (y : Known n id) where
       let fits = known-fits n id z y in
       covered-on n 8 (wordOf n id) (known-shaped n id z y) (omega arith) _ (place-in j (omega arith))
       (omega (arith, place-steps j (omega arith), known-steps n id z y))
-
-  pub place-covered : (p : ℕ) → p < n → bit p (coveredOf (wordOf n id)) ≡ 1 → (j : ℕ) × (j < sizeIn (id / 9) + 2) × (place n (arrangementOf n id) j ≡ p)
-  place-covered p hp e = go (decLt (steps n (fromOf (wordOf n id)) (toOf (wordOf n id))) (steps n (fromOf (wordOf n id)) p))
-    where
-      go : Dec (steps n (fromOf (wordOf n id)) (toOf (wordOf n id)) < steps n (fromOf (wordOf n id)) p) → (j : ℕ) × (j < sizeIn (id / 9) + 2)
-          × (place n (arrangementOf n id) j ≡ p)
-      go (yes l) = absurd (omega (arith, covered-off n 8 (wordOf n id) (known-shaped n id z y) (omega arith) p hp l))
-      go (no l) = (steps n (fromOf (wordOf n id)) p, omega (arith, known-steps n id z y), steps-place p hp)

@@ -8,7 +8,7 @@ use native.Mathlib.Decide.{decLt, ℕ-discrete}
 use lib.Dec.{eqb}
 use borrow.Author.Tests.{lt-ltb, le-ltb, eq-eqb, ne-eqb, eqb-true}
 use Rattle.bits.specs.Bit.{bit}
-use Rattle.bits.specs.BitLaws.{bit-lt, bit-or, bit-pow-same, bit-pow-other}
+use Rattle.bits.specs.BitLaws.{bit-lt, bit-or, bit-pow-same}
 use Rattle.bits.specs.Sum.{same}
 use Rattle.words.specs.Word.{setOf, innerOf, firstOf, secondOf, outsideOf, pattern, part, coveredOf, fromOf, toOf, headOf, lastOf, steps, Shaped}
 use Rattle.words.specs.StepLaws.{steps-none, steps-zero, steps-same}
@@ -269,21 +269,6 @@ module _ (n k w : ℕ) (s : Shaped n w) (h : 8 ≤ k) where
           let x : bit p (2 ^ secondOf w) ≡ 1 = rw e (bit-pow-same p) in
           omega (arith, covered-bit p, bit-lt p (innerOf w), bit-lt p (2 ^ firstOf w))
       go (no a) (no b) = omega (arith, covered-bit p, off a b, bit-lt p (2 ^ firstOf w), bit-lt p (2 ^ secondOf w))
-
-  pub covered-off : (p : ℕ) → p < n → steps n (fromOf w) (toOf w) < steps n (fromOf w) p → bit p (coveredOf w) ≡ 0
-  covered-off p hp l =
-      let o = off-ends p (λ e. low (sym e)) (λ e. omega (arith, ap (λ q. steps n (fromOf w) q) e)) in
-      omega (
-        arith,
-        covered-bit p,
-        s .beyond p hp (inr (omega arith)),
-        bit-pow-other p (firstOf w) (λ e. o .0 (sym e)),
-        bit-pow-other p (secondOf w)
-            (λ e. o .1 (sym e)),
-      )
-    where
-      low : fromOf w ≡ p → ⊥
-      low e = omega (arith, steps-none n (fromOf w), ap (λ q. steps n (fromOf w) q) e)
 
   -- where a black may stand nothing else may
   pub black-alone : (p u v : ℕ) → 8 ≤ v → pattern k w p v ≡ true → pattern k w p u ≡ true → u ≡ v

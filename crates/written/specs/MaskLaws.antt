@@ -5,7 +5,7 @@ use mathlib.Core.Bool.{true}
 use mathlib.Core.Logic.{inl, inr, ⊎-elim}
 use mathlib.Core.List.{List, [], _∷_, _++_, map, List·Memᴰ, List·Memᴰ·head, List·Memᴰ·tail, List·Memᴰ·append-cases, List·Memᴰ·not-nil}
 use native.Mathlib.Omega.{arith}
-use native.Mathlib.Decide.{ℕ-discrete, decLt}
+use native.Mathlib.Decide.{decLt}
 use native.Mathlib.Nat.{mul-le-mul, mod-eq-of-lt, mod-lt, add-comm, add-zero}
 use lib.Arith.{digits-div, digits-mod}
 use lib.Dec.{eqb}
@@ -21,10 +21,10 @@ use Rattle.checks.specs.SizeLaws.{Size}
 use Rattle.value.specs.MaskLaws.{digits-small}
 use Rattle.table.specs.Table.{half, everyValue, bitOf, hasBit, tableOf}
 use Rattle.bits.specs.Bit.{bit}
-use Rattle.bits.specs.BitLaws.{bit-lt, bit-le, bits-none}
-use Rattle.slab.specs.Slab.{cand, tableIn}
+use Rattle.bits.specs.BitLaws.{bit-le, bits-none}
+use Rattle.slab.specs.Slab.{tableIn}
 use Rattle.slab.specs.SlabLaws.{cand-in}
-use Rattle.slab.specs.Ready.{Ready, ValueOf, ready-valid}
+use Rattle.slab.specs.Ready.{Ready, ValueOf, ready-valid, ready-unused}
 use Rattle.written.specs.Published.{mask, published, PublishedTable}
 
 -- ---- as the code writes it
@@ -123,19 +123,10 @@ module _ {n : ℕ} {l : List ℕ} (s : Ready n l) (r c : ℕ) (row : r < n) (col
   place : r * 9 + c < 81
   place = omega (arith, s .size .high)
 
-  -- a digit that the size has not is no candidate
-  unused : (v : ℕ) → n - 1 ≤ v → v < 8 → bit v (getD l (r * 9 + c) 0) ≡ 0
-  unfolding ValueOf
-  unused v h g = go (ℕ-discrete (cand l (r * 9 + c) v) 1)
-    where
-      go : Dec (cand l (r * 9 + c) v ≡ 1) → bit v (getD l (r * 9 + c) 0) ≡ 0
-      go (yes e) = absurd (⊎-elim (λ w. omega (arith, w)) (λ w. omega (arith, w)) (ready-valid s (r * 9 + c) v (omega arith) e .value))
-      go (no e) = omega (arith, cand-in l (r * 9 + c) v place, bit-lt v (getD l (r * 9 + c) 0))
-
   digits-below : getD l (r * 9 + c) 0 % 256 < 2 ^ (n - 1)
   digits-below =
       below 8 (n - 1) (getD l (r * 9 + c) 0 % 256) (omega (arith, s .size .high)) (mod-lt (getD l (r * 9 + c) 0) (omega arith))
-      (λ j h g. bit-low 8 j (getD l (r * 9 + c) 0) g ∙ unused j h g)
+      (λ j h g. bit-low 8 j (getD l (r * 9 + c) 0) g ∙ sym (cand-in l (r * 9 + c) j place) ∙ ready-unused s (r * 9 + c) j h g)
 
   written-mask : cell n (published n l) r c ≡ mask n (getD l (r * 9 + c) 0)
   unfolding cell published
