@@ -1,0 +1,4 @@
+pub mod Read
+pub mod FieldLaws
+pub mod ValueLaws
+pub mod NumberLaws

@@ -1,0 +1,5 @@
+pub mod Fields
+pub mod Text
+pub mod Answered
+pub mod Stream
+pub mod Samples

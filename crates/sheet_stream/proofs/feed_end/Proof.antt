@@ -1,0 +1,25 @@
+-- `sheet_stream::feed_end` meets its contract. Assumes nothing.
+use native.Mathlib.Omega.{arith}
+use Rattle.sheet_stream.specs.FedLaws.{front-long, last-none, last-line}
+use borrow.Author.Needs.{needs}
+use Rattle.sheet_stream.proofs.feed_end.Statement.{statement}
+use Rattle.sheet_stream.proofs.feed_end.Tie as tie
+
+returns : tie.Need-returns
+returns c = last-none _ (c .if1 .taken)
+
+slice-aggregate-end-line : tie.Need-slice-aggregate-end-line
+slice-aggregate-end-line c = front-long _ _ (omega (arith, c .before .before .before .before .pre))
+
+end-line-requires : tie.Need-end-line-requires
+end-line-requires c κs = search needs
+
+same-length : tie.Need-same-length
+same-length c = search needs
+
+returns-2 : tie.Need-returns-2
+returns-2 c = last-line (c .before .before .before .before .before .before .before .before .pre) (c .before .before .before .before .before .if1 .left) (c .before .before .end-line .ensures)
+
+pub feed-end-spec : {M : Type 1} → statement M
+feed-end-spec =
+    tie.close (tie.spec returns slice-aggregate-end-line end-line-requires same-length returns-2)

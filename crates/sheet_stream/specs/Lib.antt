@@ -1,0 +1,3 @@
+pub mod Fed
+pub mod StreamLaws
+pub mod FedLaws
