@@ -29,17 +29,21 @@ fn print_first_difference(list: &[u8]) {
     print(b"\n");
 }
 
+// The line of one call.
+fn print_call(call: &[u8], list: &[u8], tag: usize) {
+    print_tally(
+        call,
+        replay_records::replay_list(list, tag, tag),
+        b" replayed, ",
+    );
+}
+
 fn print_report(list: &[u8]) {
-    print_tally(
-        b"target sums: ",
-        replay_records::replay_list(list, 1, 1),
-        b" replayed, ",
-    );
-    print_tally(
-        b"mark sheet: ",
-        replay_records::replay_list(list, 2, 2),
-        b" replayed, ",
-    );
+    print_call(b"target sums: ", list, 1);
+    print_call(b"mark sheet: ", list, 2);
+    print_call(b"candidates: ", list, 3);
+    print_call(b"count: ", list, 4);
+    print_call(b"solve: ", list, 5);
     let all = replay_records::replay_list(list, 0, 255);
     print_tally(b"", all, b" answers, ");
     if 0 < all.differ {

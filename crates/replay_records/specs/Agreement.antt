@@ -1,15 +1,14 @@
 -- What it means that the engine answers as a record says: the record has what the definitions give. Assumes nothing.
 use Prim.Native.Nat.{ℕ, _≤_}
 use mathlib.Core.Path.{_≡_}
-use mathlib.Core.Bool.{Bool, true, cond}
+use mathlib.Core.Bool.{Bool, true}
 use mathlib.Core.List.{List, [], _∷_}
-use lib.Dec.{eqb}
 use lib.ListN.{length}
 use Rattle.rules.specs.Sums.{Sums, targetSums}
 use Rattle.puzzle.specs.Given.{puzzle}
 use Rattle.marking.specs.Answer.{markSheet}
 use Rattle.doppelblock.specs.Number.{sheetNumber}
-use Rattle.replay_records.specs.Fields.{field, sizeOf, tag}
+use Rattle.replay_records.specs.Fields.{field, sizeOf}
 
 -- A test is true exactly where a statement holds.
 pub record Says (r : Bool) (P : Type 0) : Type 0 where
@@ -39,10 +38,3 @@ pub record SumsAgree (xs : List ℕ) : Type 0 where
 -- A record of a marked sheet is right.
 abbrev pub SheetAgrees : List ℕ → Type 0
 SheetAgrees xs = field xs 4 ≡ sheetNumber (markSheet (puzzle (sizeOf xs) (field xs 1) (field xs 2)) (field xs 3)) ∷ []
-
--- A record is right, by its tag.
-unfoldable pub AgreesAs : ℕ → List ℕ → Type 0
-AgreesAs t xs = cond (eqb t 1) (SumsAgree xs) (cond (eqb t 2) (SheetAgrees xs) ⊥)
-
-abbrev pub Agrees : List ℕ → Type 0
-Agrees xs = AgreesAs (tag xs) xs

@@ -5,13 +5,13 @@ use mathlib.Core.Path.{_≡_, sym, ap, _∙_}
 use mathlib.Core.Bool.{Bool, true, false, not, false≢true}
 use mathlib.Core.List.{List, [], _∷_}
 use lib.ListN.{length, take}
-use borrow.Author.Tests.{eq-eqb, ne-eqb, not-true, not-false}
+use borrow.Author.Tests.{not-true, not-false}
 use Rattle.rules.specs.Sums.{targetSums}
 use Rattle.puzzle.specs.Given.{puzzle}
 use Rattle.marking.specs.Answer.{markSheet}
 use Rattle.doppelblock.specs.Number.{SumsGiven, sheetNumber}
-use Rattle.replay_records.specs.Fields.{field, sizeOf, tag}
-use Rattle.replay_records.specs.Agreement.{Says, SumsRecorded, SumsFrom, SumsAgree, SheetAgrees, AgreesAs, Agrees}
+use Rattle.replay_records.specs.Fields.{field, sizeOf}
+use Rattle.replay_records.specs.Agreement.{Says, SumsRecorded, SumsFrom, SumsAgree, SheetAgrees}
 
 -- No is right of a statement that cannot hold.
 pub says-no : {P : Type 0} → (P → ⊥) → Says false P
@@ -77,16 +77,3 @@ module _ (xs : List ℕ) where
       (size number : ℕ) (rows columns cells : List ℕ) (b : Bool) → size ≡ sizeOf xs → rows ≡ field xs 1 → columns ≡ field xs 2
       → cells ≡ field xs 3 → number ≡ sheetNumber (markSheet (puzzle size rows columns) cells) → Says b (field xs 4 ≡ number ∷ []) → Says b (SheetAgrees xs)
   sheet-called size number rows columns cells b s r c e n h = rw (n, s, r, c, e) at h
-
-module _ (xs : List ℕ) (t : ℕ) (is-tag : t ≡ tag xs) where
-  pub agrees-sums : {b : Bool} → t ≡ 1 → Says b (SumsAgree xs) → Says b (Agrees xs)
-  unfolding AgreesAs
-  agrees-sums e s = rw (eq-eqb (tag xs) 1 (sym is-tag ∙ e)) s
-
-  pub agrees-sheet : {b : Bool} → (t ≡ 1 → ⊥) → t ≡ 2 → Says b (SheetAgrees xs) → Says b (Agrees xs)
-  unfolding AgreesAs
-  agrees-sheet n e s = rw (ne-eqb (tag xs) 1 (λ q. n (is-tag ∙ q)), eq-eqb (tag xs) 2 (sym is-tag ∙ e)) s
-
-  pub agrees-none : (t ≡ 1 → ⊥) → (t ≡ 2 → ⊥) → Says false (Agrees xs)
-  unfolding AgreesAs
-  agrees-none n m = rw (ne-eqb (tag xs) 1 (λ q. n (is-tag ∙ q)), ne-eqb (tag xs) 2 (λ q. m (is-tag ∙ q))) (says-no (λ f. f))

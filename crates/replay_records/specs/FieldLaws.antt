@@ -1,16 +1,17 @@
 -- Laws of the fields of a record. Assumes nothing.
-use Prim.Native.Nat.{ℕ, zero, suc, _+_, _*_, _-_, _≤_, _<_}
+use Prim.Native.Nat.{ℕ, zero, suc, _+_, _*_, _-_, _^_, _≤_, _<_}
 use native.Mathlib.Numerals.{add-one}
 use native.Mathlib.Omega.{arith}
+use native.Mathlib.Nat.{pow-suc, pow-le-pow-right, lt-of-lt-of-le}
 use mathlib.Core.Path.{_≡_}
 use mathlib.Core.Bool.{true, false}
 use mathlib.Core.List.{List, [], _++_}
 use lib.Dec.{ltb, leb, eqb}
-use lib.ListN.{length, getD, take, drop}
-use lib.Seq.{take-length, take-append-seam}
+use lib.ListN.{length, getD, take, drop, drop-of-length-le}
+use lib.Seq.{take-length, take-append-seam, drop-cons}
 use borrow.Author.Tests.{lt-ltb, le-ltb, le-leb, lt-leb, leb-true}
 use Rattle.tally.specs.TallyLaws.{and-left, and-right}
-use Rattle.replay_records.specs.Fields.{fieldStart, part, field, tag, fieldCount, recordLength, readable}
+use Rattle.replay_records.specs.Fields.{fieldStart, part, field, tag, fieldCount, recordLength, readable, numberFrom}
 
 -- What a copy into a longer list begins with.
 pub copied : (src dst out : List ℕ) → out ≡ take (length src) src ++ drop (length src) dst → take (length src) out ≡ src
@@ -77,3 +78,24 @@ module _ (xs : List ℕ) where
 pub readable-within : (xs : List ℕ) → readable xs ≡ true → recordLength xs ≤ length xs
 unfolding readable
 readable-within xs e = leb-true (recordLength xs) (length xs) (and-left _ _ (and-right (ltb 0 (fieldCount (tag xs))) _ e))
+
+-- ---- a number, byte by byte
+
+module _ (bs : List ℕ) where
+  pub number-next :
+      (v i b : ℕ) → i < length bs → b ≡ getD bs i 0 → numberFrom v (drop i bs) ≡ numberFrom 0 bs
+      → numberFrom (v * 256 + b) (drop (i + 1) bs) ≡ numberFrom 0 bs
+  unfolding numberFrom
+  number-next v i b h e is = rw (e, add-one) (rw (drop-cons bs i 0 h) at is)
+
+  pub number-end : (v i : ℕ) → length bs ≤ i → numberFrom v (drop i bs) ≡ numberFrom 0 bs → v ≡ numberFrom 0 bs
+  unfolding numberFrom
+  number-end v i h is = rw (drop-of-length-le bs h) at is
+
+-- Each byte takes a place of 256.
+pub number-more : (v i b : ℕ) → v < 256 ^ i → b < 256 → v * 256 + b < 256 ^ (i + 1)
+number-more v i b h k = rw (add-one, pow-suc) (omega arith)
+
+-- Eight bytes fit.
+pub number-fits : (v i b : ℕ) → v < 256 ^ i → i < 8 → b < 256 → v * 256 + b < 2 ^ 64
+number-fits v i b h k l = lt-of-lt-of-le (number-more v i b h l) (pow-le-pow-right {n = 256} (omega arith) {j = 8} (omega arith))

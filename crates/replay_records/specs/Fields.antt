@@ -1,7 +1,7 @@
 -- The record that a list of answers begins with: where its fields stand. Assumes nothing.
 use Prim.Native.Nat.{ℕ, zero, suc, _+_, _*_, _-_}
 use mathlib.Core.Bool.{Bool, _&&_, cond}
-use mathlib.Core.List.{List, []}
+use mathlib.Core.List.{List, [], _∷_}
 use lib.Dec.{ltb, leb, eqb}
 use lib.ListN.{length, getD, take, drop}
 
@@ -29,9 +29,14 @@ tag xs = getD xs 0 0
 abbrev pub sizeOf : List ℕ → ℕ
 sizeOf xs = getD (field xs 0) 0 0
 
+-- A number in bytes, most significant first, where v stands in front of them.
+unfoldable pub numberFrom : ℕ → List ℕ → ℕ
+numberFrom v [] = v
+numberFrom v (b ∷ bs) = numberFrom (v * 256 + b) bs
+
 -- How many fields a record with this tag has; 0 for a tag that no call has.
 unfoldable pub fieldCount : ℕ → ℕ
-fieldCount t = cond (eqb t 1) 7 (cond (eqb t 2) 5 0)
+fieldCount t = cond (eqb t 1) 7 (cond (eqb t 2) 5 (cond (eqb t 3) 7 (cond (eqb t 4) 8 (cond (eqb t 5) 7 0))))
 
 -- How many bytes the record takes.
 abbrev pub recordLength : List ℕ → ℕ

@@ -1,14 +1,15 @@
 -- A list of answers, record by record: what replaying finds and counts. Assumes nothing.
 use Prim.Native.Nat.{ℕ, _+_, _≤_, _<_}
 use mathlib.Core.Path.{_≡_}
-use mathlib.Core.Bool.{Bool, true, _&&_, not, cond}
+use mathlib.Core.Bool.{Bool, true, false, _&&_, not, cond}
 use mathlib.Core.List.{List, []}
-use lib.Dec.{leb}
+use lib.Dec.{leb, eqb}
 use lib.ListN.{length, drop}
 use Rattle.replay_records.specs.declared.Outcome.{Outcome}
 use Rattle.replay_records.specs.declared.Tally.{Tally}
 use Rattle.replay_records.specs.Fields.{tag, readable, recordLength}
-use Rattle.replay_records.specs.Agreement.{Says, Agrees}
+use Rattle.replay_records.specs.Agreement.{Says, SumsAgree, SheetAgrees}
+use Rattle.replay_records.specs.SolverAgreement.{TableFound, CountAgrees, CellsFound}
 
 -- The tag of the first record, or 0 where none can be read.
 abbrev pub kind : List ℕ → ℕ
@@ -18,9 +19,23 @@ kind xs = cond (readable xs) (tag xs) 0
 abbrev pub step : List ℕ → ℕ
 step xs = cond (readable xs) (recordLength xs) (length xs)
 
--- The first record can be read and is right.
-abbrev pub Right : List ℕ → Type 0
-Right xs = (readable xs ≡ true) × Agrees xs
+-- What a test of a record says, by the record's tag: no, where no call has the tag.
+unfoldable pub FindsAs : ℕ → Bool → List ℕ → Type 0
+FindsAs t r xs =
+    cond (eqb t 1) (Says r (SumsAgree xs))
+    (cond (eqb t 2) (Says r (SheetAgrees xs))
+    (cond (eqb t 3) (TableFound r xs)
+    (cond (eqb t 4) (Says r (CountAgrees xs))
+    (cond (eqb t 5) (CellsFound r xs)
+    (r ≡ false)))))
+
+abbrev pub Finds : Bool → List ℕ → Type 0
+Finds r xs = FindsAs (tag xs) r xs
+
+-- What a test of the first record says: no, where none can be read.
+pub record Tested (r : Bool) (xs : List ℕ) : Type 0 where
+  pub read : readable xs ≡ true → Finds r xs
+  pub unread : readable xs ≡ false → r ≡ false
 
 -- What replaying the first record of a list gives. The bounds follow from the length.
 pub record Replayed (xs : List ℕ) (o : Outcome) : Type 0 where
@@ -28,7 +43,7 @@ pub record Replayed (xs : List ℕ) (o : Outcome) : Type 0 where
   pub length-is : o .length ≡ step xs
   pub within : o .length ≤ length xs
   pub onward : 0 < length xs → 0 < o .length
-  pub agrees-is : Says (o .agrees) (Right xs)
+  pub agrees-is : Tested (o .agrees) xs
 
 -- A kind from first to last is counted.
 abbrev pub counted : ℕ → ℕ → ℕ → Bool
@@ -45,15 +60,15 @@ pub record Added (first last : ℕ) (t : Tally) (o : Outcome) (r : Tally) : Type
   pub replayed-most : r .replayed ≤ t .replayed + 1
   pub differ-most : r .differ ≤ t .differ + 1
 
--- Of the records of a list whose kind is from first to last, there are some number, and some number of these are not right.
+-- Of the records of a list whose kind is from first to last, there are some number, and in some number of these the engine answers otherwise.
 pub data Tallied (first last : ℕ) : ℕ → ℕ → List ℕ → Type 0 where
   none : Tallied first last 0 0 []
   more :
-      {k d : ℕ} {xs : List ℕ} {agrees : Bool} → 0 < length xs → Says agrees (Right xs) → Tallied first last k d (drop (step xs) xs)
+      {k d : ℕ} {xs : List ℕ} {agrees : Bool} → 0 < length xs → Tested agrees xs → Tallied first last k d (drop (step xs) xs)
       → Tallied first last (one (counted first last (kind xs)) + k) (one (counted first last (kind xs) && not agrees) + d) xs
 
--- Where the first record of a list begins that is not right; the end of the list where all are right.
+-- Where the first record of a list begins in which the engine answers otherwise; the end of the list where there is none.
 pub data FirstDifference : ℕ → List ℕ → Type 0 where
   at-end : FirstDifference 0 []
-  here : {xs : List ℕ} → 0 < length xs → (Right xs → ⊥) → FirstDifference 0 xs
-  later : {k : ℕ} {xs : List ℕ} → 0 < length xs → Right xs → FirstDifference k (drop (step xs) xs) → FirstDifference (step xs + k) xs
+  here : {xs : List ℕ} → 0 < length xs → Tested false xs → FirstDifference 0 xs
+  later : {k : ℕ} {xs : List ℕ} → 0 < length xs → Tested true xs → FirstDifference k (drop (step xs) xs) → FirstDifference (step xs + k) xs

@@ -2,20 +2,57 @@
 use Prim.Native.Nat.{ℕ, _+_, _-_, _≤_, _<_}
 use native.Mathlib.Omega.{arith}
 use native.Mathlib.Nat.{zero-add, add-zero}
-use mathlib.Core.Path.{_≡_, sym, _∙_}
+use mathlib.Core.Path.{_≡_, refl, sym, _∙_, subst}
 use mathlib.Core.Bool.{Bool, true, false, _&&_, not, false≢true}
 use mathlib.Core.List.{List, []}
 use lib.ListN.{length, take, drop, length-drop, drop-of-length-le}
 use lib.Seq.{take-all, drop-drop}
-use borrow.Author.Tests.{not-true, not-false}
+use lib.Dec.{eqb}
+use borrow.Author.Tests.{eq-eqb, ne-eqb, not-true, not-false}
 use Rattle.replay_records.specs.declared.Outcome.{Outcome}
 use Rattle.replay_records.specs.declared.Tally.{Tally}
 use Rattle.replay_records.specs.Fields.{tag, fieldCount, fieldStart, recordLength, readable}
 use Rattle.replay_records.specs.FieldLaws.{start-positive, readable-within}
-use Rattle.replay_records.specs.Agreement.{Says, Agrees}
-use Rattle.replay_records.specs.AgreementLaws.{says-no, says-refuted, says-also}
-use Rattle.replay_records.specs.Replay.{kind, step, Replayed, counted, one, Added}
+use Rattle.replay_records.specs.Agreement.{Says, SumsAgree, SheetAgrees}
+use Rattle.replay_records.specs.SolverAgreement.{TableFound, CountAgrees, CellsFound}
+use Rattle.replay_records.specs.Replay.{kind, step, FindsAs, Finds, Tested, Replayed, counted, one, Added}
 use Rattle.replay_records.specs.Replay.{Tallied, none, more, FirstDifference, at-end, here, later}
+
+-- The call of each tag was run.
+module _ (xs : List ℕ) (t : ℕ) (is-tag : t ≡ tag xs) where
+  is : (k : ℕ) → t ≡ k → eqb (tag xs) k ≡ true
+  is k e = eq-eqb (tag xs) k (sym is-tag ∙ e)
+
+  isnt : (k : ℕ) → (t ≡ k → ⊥) → eqb (tag xs) k ≡ false
+  isnt k n = ne-eqb (tag xs) k (λ q. n (is-tag ∙ q))
+
+  module _ {b : Bool} where
+    pub finds-sums : t ≡ 1 → Says b (SumsAgree xs) → Finds b xs
+    unfolding FindsAs
+    finds-sums e s = rw (is 1 e) s
+
+    module _ (n₁ : t ≡ 1 → ⊥) where
+      pub finds-sheet : t ≡ 2 → Says b (SheetAgrees xs) → Finds b xs
+      unfolding FindsAs
+      finds-sheet e s = rw (isnt 1 n₁, is 2 e) s
+
+      module _ (n₂ : t ≡ 2 → ⊥) where
+        pub finds-table : t ≡ 3 → TableFound b xs → Finds b xs
+        unfolding FindsAs
+        finds-table e s = rw (isnt 1 n₁, isnt 2 n₂, is 3 e) s
+
+        module _ (n₃ : t ≡ 3 → ⊥) where
+          pub finds-count : t ≡ 4 → Says b (CountAgrees xs) → Finds b xs
+          unfolding FindsAs
+          finds-count e s = rw (isnt 1 n₁, isnt 2 n₂, isnt 3 n₃, is 4 e) s
+
+          pub finds-cells : (t ≡ 4 → ⊥) → t ≡ 5 → CellsFound b xs → Finds b xs
+          unfolding FindsAs
+          finds-cells n₄ e s = rw (isnt 1 n₁, isnt 2 n₂, isnt 3 n₃, isnt 4 n₄, is 5 e) s
+
+  pub finds-none : (t ≡ 1 → ⊥) → (t ≡ 2 → ⊥) → (t ≡ 3 → ⊥) → (t ≡ 4 → ⊥) → (t ≡ 5 → ⊥) → Finds false xs
+  unfolding FindsAs
+  finds-none n₁ n₂ n₃ n₄ n₅ = rw (isnt 1 n₁, isnt 2 n₂, isnt 3 n₃, isnt 4 n₄, isnt 5 n₅) refl
 
 -- Nothing can be read.
 pub replayed-none :
@@ -27,13 +64,13 @@ replayed-none xs r is-r e =
       length-is = simp f;
       within = omega arith;
       onward = λ h. h;
-      agrees-is = says-no (λ p. false≢true (sym f ∙ p .0));
+      agrees-is = record { read = λ e. absurd (false≢true (sym f ∙ e)); unread = λ _. refl };
     }
 
 -- A record was read and its call run.
 pub replayed-one :
     (xs : List ℕ) (r a : Bool) (t count end : ℕ) → r ≡ readable xs → not r ≡ false → t ≡ tag xs → count ≡ fieldCount t → end ≡ fieldStart xs count
-    → Says a (Agrees xs) → Replayed xs (record { kind = t; length = end; agrees = a })
+    → Finds a xs → Replayed xs (record { kind = t; length = end; agrees = a })
 replayed-one xs r a t count end is-r e is-t is-count is-end s =
     let f : readable xs ≡ true = sym is-r ∙ not-false r e in
     let g : end ≡ recordLength xs = cc in
@@ -42,7 +79,7 @@ replayed-one xs r a t count end is-r e is-t is-count is-end s =
       length-is = simp f g;
       within = omega (arith, readable-within xs f);
       onward = λ h. omega (arith, start-positive xs (fieldCount (tag xs)));
-      agrees-is = says-also s (λ p. (f, p)) (λ p. p .1);
+      agrees-is = record { read = λ _. s; unread = λ e. absurd (false≢true (sym e ∙ f)) };
     }
 
 -- A record was replayed from a place of the list on.
@@ -102,11 +139,11 @@ module _ (xs : List ℕ) where
     pub leads-here : not (o .agrees) ≡ true → FirstDifference at xs
     leads-here e =
         let r = replayed-rest xs at o h replayed in
-        rw (add-zero at) at (f 0 (here (rest-nonempty xs at o h replayed) (says-refuted (r .agrees-is) (not-true (o .agrees) e))))
+        rw (add-zero at) at (f 0 (here (rest-nonempty xs at o h replayed) (subst (λ b. Tested b (drop at xs)) (not-true (o .agrees) e) (r .agrees-is))))
 
     pub leads-later : not (o .agrees) ≡ false → Leads xs (at + o .length)
     leads-later e k rest =
         let r = replayed-rest xs at o h replayed in
         let there : FirstDifference k (drop (step (drop at xs)) (drop at xs)) = rw (← r .length-is, drop-drop) rest in
         let p : at + (step (drop at xs) + k) ≡ at + o .length + k = rw (r .length-is) (omega arith) in
-        rw (← p) (f (step (drop at xs) + k) (later (rest-nonempty xs at o h replayed) (r .agrees-is .sound (not-false (o .agrees) e)) there))
+        rw (← p) (f (step (drop at xs) + k) (later (rest-nonempty xs at o h replayed) (subst (λ b. Tested b (drop at xs)) (not-false (o .agrees) e) (r .agrees-is)) there))

@@ -1,4 +1,4 @@
-// The calls, each run on the fields of a record.
+// Target sums and marking, run on the fields of a record, and what the calls of the solver share with them.
 use crate::fields::byte;
 use crate::fields::field;
 ghost use mathlib.Core.Path.{_≡_};
@@ -9,16 +9,16 @@ ghost use Rattle.replay_records.specs.Fields.{field as Fields·field, si
 ghost use Rattle.replay_records.specs.Agreement.{Says, SumsRecorded, SumsFrom, SumsAgree, SheetAgrees};
 
 // The room for a slice that a call writes to.
-const ROOM: usize = 256;
+pub(crate) const ROOM: usize = 256;
 
-fn size(list: &[u8]) -> usize
+pub(crate) fn size(list: &[u8]) -> usize
     ensures { λ r. ⌜ r ≡ sizeOf (now (list .entry)) ⌝ }
 {
     byte(field(list, 0), 0)
 }
 
 // Whether field k is these bytes.
-fn is_field(list: &[u8], k: usize, content: &[u8]) -> bool
+pub(crate) fn is_field(list: &[u8], k: usize, content: &[u8]) -> bool
     requires { ⌜ k < 8 ⌝ }
     ensures { λ r. ⌜ Says r (Fields·field (now (list .entry)) k ≡ now (content .entry)) ⌝ }
 {
@@ -26,7 +26,7 @@ fn is_field(list: &[u8], k: usize, content: &[u8]) -> bool
 }
 
 // Whether field k is one byte, the number.
-fn is_number(list: &[u8], k: usize, number: u8) -> bool
+pub(crate) fn is_number(list: &[u8], k: usize, number: u8) -> bool
     requires { ⌜ k < 8 ⌝ }
     ensures { λ r. ⌜ Says r (Fields·field (now (list .entry)) k ≡ number ∷ []) ⌝ }
 {
@@ -35,7 +35,7 @@ fn is_number(list: &[u8], k: usize, number: u8) -> bool
 }
 
 // A buffer that begins with the content of a field.
-fn buffer(content: &[u8]) -> [u8; 256]
+pub(crate) fn buffer(content: &[u8]) -> [u8; 256]
     requires { ⌜ length (now content) ≤ 256 ⌝ }
     ensures { λ r. ⌜ (length r ≡ 256) × (take (length (now (content .entry))) r ≡ now (content .entry)) ⌝ }
 {

@@ -2,8 +2,8 @@
 use puzzle::wide;
 ghost use mathlib.Core.Path.{_≡_};
 ghost use Prim.Native.Nat.{_≤_, _<_};
-ghost use lib.ListN.{getD};
-ghost use Rattle.replay_records.specs.Fields.{fieldStart, fieldCount, field as Fields·field, readable};
+ghost use lib.ListN.{length, getD};
+ghost use Rattle.replay_records.specs.Fields.{fieldStart, fieldCount, field as Fields·field, numberFrom, readable};
 
 // Byte i of a list.
 pub(crate) fn byte(list: &[u8], i: usize) -> usize
@@ -24,6 +24,15 @@ pub(crate) fn field_count(tag: usize) -> usize
     }
     if tag == 2 {
         return 5;
+    }
+    if tag == 3 {
+        return 7;
+    }
+    if tag == 4 {
+        return 8;
+    }
+    if tag == 5 {
+        return 7;
     }
     0
 }
@@ -53,6 +62,20 @@ pub(crate) fn field(list: &[u8], k: usize) -> &[u8]
         return &list[..0];
     }
     &list[start..end]
+}
+
+// The number that 8 bytes are, most significant first.
+pub(crate) fn number(bytes: &[u8]) -> u64
+    requires { ⌜ length (now bytes) ≡ 8 ⌝ }
+    ensures { λ r. ⌜ r ≡ numberFrom 0 (now (bytes .entry)) ⌝ }
+{
+    let mut v = 0;
+    let mut i = 0;
+    while i < bytes.len() {
+        v = v * 256 + byte(bytes, i);
+        i += 1;
+    }
+    v as u64
 }
 
 // Whether the list begins with a whole record of a known tag, whose size is one byte.

@@ -2,6 +2,7 @@
 // and every byte of the buffers are compared with the recorded ones. What cannot be read is a difference.
 mod calls;
 mod fields;
+mod solver_calls;
 
 use calls::mark_sheet_agrees;
 use calls::target_sums_agree;
@@ -9,9 +10,11 @@ use fields::byte;
 use fields::field_count;
 use fields::field_start;
 use fields::is_readable;
+use solver_calls::candidates_agree;
+use solver_calls::count_agrees;
+use solver_calls::solve_agrees;
 ghost use Prim.Native.Nat.{_+_, _<_, _^_};
-ghost use Rattle.replay_records.specs.Agreement.{Agrees, Says};
-ghost use Rattle.replay_records.specs.Replay.{Replayed, Added, Tallied, FirstDifference};
+ghost use Rattle.replay_records.specs.Replay.{Finds, Replayed, Added, Tallied, FirstDifference};
 
 // What replaying the first record of a list found: its tag, how many bytes it takes, and whether the engine answers as recorded. Where no
 // record can be read, the kind is 0 and the length that of the whole list.
@@ -28,7 +31,7 @@ pub struct Tally {
 
 // Whether the engine answers as the record says.
 fn agrees(list: &[u8]) -> bool
-    ensures { λ r. ⌜ Says r (Agrees (now (list .entry))) ⌝ }
+    ensures { λ r. ⌜ Finds r (now (list .entry)) ⌝ }
 {
     let tag = byte(list, 0);
     if tag == 1 {
@@ -36,6 +39,15 @@ fn agrees(list: &[u8]) -> bool
     }
     if tag == 2 {
         return mark_sheet_agrees(list);
+    }
+    if tag == 3 {
+        return candidates_agree(list);
+    }
+    if tag == 4 {
+        return count_agrees(list);
+    }
+    if tag == 5 {
+        return solve_agrees(list);
     }
     false
 }

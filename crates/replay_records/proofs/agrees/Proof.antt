@@ -1,6 +1,6 @@
 -- `replay_records::agrees` meets its contract. Assumes nothing.
 use borrow.Author.Needs.{needs}
-use Rattle.replay_records.specs.AgreementLaws.{agrees-sums, agrees-sheet, agrees-none}
+use Rattle.replay_records.specs.ReplayLaws.{finds-sums, finds-sheet, finds-table, finds-count, finds-cells, finds-none}
 use Rattle.replay_records.proofs.agrees.Statement.{statement}
 use Rattle.replay_records.proofs.agrees.Tie as tie
 
@@ -11,16 +11,34 @@ target-sums-agree-requires : tie.Need-target-sums-agree-requires
 target-sums-agree-requires c κs = search needs
 
 returns : tie.Need-returns
-returns c = search (needs, agrees-sums)
+returns c = search (needs, finds-sums)
 
 mark-sheet-agrees-requires : tie.Need-mark-sheet-agrees-requires
 mark-sheet-agrees-requires c κs = search needs
 
 returns-2 : tie.Need-returns-2
-returns-2 c = search (needs, agrees-sheet)
+returns-2 c = search (needs, finds-sheet)
+
+candidates-agree-requires : tie.Need-candidates-agree-requires
+candidates-agree-requires c κs = search needs
 
 returns-3 : tie.Need-returns-3
-returns-3 c = search (needs, agrees-none)
+returns-3 c = search (needs, finds-table)
+
+count-agrees-requires : tie.Need-count-agrees-requires
+count-agrees-requires c κs = search needs
+
+returns-4 : tie.Need-returns-4
+returns-4 c = search (needs, finds-count)
+
+solve-agrees-requires : tie.Need-solve-agrees-requires
+solve-agrees-requires c κs = search needs
+
+returns-5 : tie.Need-returns-5
+returns-5 c = search (needs, finds-cells)
+
+returns-6 : tie.Need-returns-6
+returns-6 c = search (needs, finds-none)
 
 pub agrees-spec : {M : Type 1} → statement M
 agrees-spec =
@@ -31,4 +49,10 @@ agrees-spec =
     returns
     mark-sheet-agrees-requires
     returns-2
-    returns-3)
+    candidates-agree-requires
+    returns-3
+    count-agrees-requires
+    returns-4
+    solve-agrees-requires
+    returns-5
+    returns-6)

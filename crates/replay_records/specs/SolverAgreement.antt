@@ -1,0 +1,94 @@
+-- What it means that the solver answers as a record says. A count has to be what the definitions give. Where a promise leaves open what a call writes,
+-- the record has to have what the call wrote, and that keeps the promise. Assumes nothing.
+use Prim.Native.Nat.{ℕ, _≤_, _<_}
+use mathlib.Core.Path.{_≡_}
+use mathlib.Core.Bool.{Bool, false}
+use mathlib.Core.List.{List, [], _∷_}
+use lib.ListN.{length}
+use Rattle.rules.specs.Grid.{Puzzle}
+use Rattle.rules.specs.Mark.{marksOf}
+use Rattle.rules.specs.Check.{refusal, countChecks}
+use Rattle.rules.specs.Number.{capped}
+use Rattle.puzzle.specs.Given.{puzzle}
+use Rattle.engine.specs.declared.Counted.{Counted}
+use Rattle.engine.specs.Answer.{counted}
+use Rattle.doppelblock.specs.Number.{countNumber, countAfter, SolveNumbered}
+use Rattle.doppelblock.specs.Entries.{TableNumbered}
+use Rattle.replay_records.specs.Fields.{field, sizeOf, numberFrom}
+use Rattle.replay_records.specs.Agreement.{Says}
+
+-- The puzzle and the marks of a record.
+abbrev pub puzzleOf : List ℕ → Puzzle
+puzzleOf xs = puzzle (sizeOf xs) (field xs 1) (field xs 2)
+
+abbrev pub marksIn : List ℕ → List ℕ
+marksIn xs = marksOf (field xs 3)
+
+-- ---- Count
+
+-- Eight bytes are a number.
+pub record LongNumber (v : ℕ) (bytes : List ℕ) : Type 0 where
+  pub whole : length bytes ≡ 8
+  pub value-is : numberFrom 0 bytes ≡ v
+
+-- The record has this number and this count.
+pub record CountRecorded (number count : ℕ) (xs : List ℕ) : Type 0 where
+  pub answer-is : field xs 6 ≡ number ∷ []
+  pub count-is : LongNumber count (field xs 7)
+
+-- The record has what an answer of Count gives, where the place of the count holds a number to begin with.
+abbrev pub CountAs : Counted → ℕ → List ℕ → Type 0
+CountAs answer old xs = CountRecorded (countNumber answer) (countAfter answer old) xs
+
+-- The record has the count of its puzzle and marks under a cap.
+abbrev pub CountFrom : ℕ → ℕ → List ℕ → Type 0
+CountFrom cap old xs = CountAs (counted (refusal (countChecks (puzzleOf xs) (marksIn xs))) (capped cap (puzzleOf xs) (marksIn xs))) old xs
+
+-- A record of a count is right, and its numbers have eight bytes.
+pub record CountAgrees (xs : List ℕ) : Type 0 where
+  pub cap-whole : length (field xs 4) ≡ 8
+  pub old-whole : length (field xs 5) ≡ 8
+  pub counts-are : CountFrom (numberFrom 0 (field xs 4)) (numberFrom 0 (field xs 5)) xs
+
+-- ---- Candidates and Solve
+
+-- The record has this number and this buffer.
+pub record BufferRecorded (number : ℕ) (after : List ℕ) (xs : List ℕ) : Type 0 where
+  pub answer-is : field xs 5 ≡ number ∷ []
+  pub buffer-is : field xs 6 ≡ after
+
+-- Where a promise leaves open what a call gives: a number and a buffer keep the promise, and a test is true exactly where the record has these.
+pub record Compared (r : Bool) (Promised : ℕ → List ℕ → Type 0) (xs : List ℕ) : Type 0 where
+  pub number : ℕ
+  pub after : List ℕ
+  pub promised : Promised number after
+  pub says : Says r (BufferRecorded number after xs)
+
+-- The same, and the test is false where the recorded buffer does not fit the one that the record is replayed with.
+pub record Found (r : Bool) (Promised : ℕ → List ℕ → Type 0) (xs : List ℕ) : Type 0 where
+  pub long : 256 < length (field xs 4) → r ≡ false
+  pub short : length (field xs 4) ≤ 256 → Compared r Promised xs
+
+-- What Candidates promises of its number and of the table, before and afterwards.
+abbrev pub TablePromised : List ℕ → List ℕ → ℕ → List ℕ → Type 0
+TablePromised xs table number after = TableNumbered (puzzleOf xs) (marksIn xs) number table after
+
+-- What a test of the call says, where the table holds these bytes to begin with.
+abbrev pub TableFrom : List ℕ → Bool → List ℕ → Type 0
+TableFrom table r xs = Compared r (TablePromised xs table) xs
+
+-- What a test of a record of candidates says.
+abbrev pub TableFound : Bool → List ℕ → Type 0
+TableFound r xs = Found r (TablePromised xs (field xs 4)) xs
+
+-- What Solve promises of its number and of the cells, before and afterwards.
+abbrev pub CellsPromised : List ℕ → List ℕ → ℕ → List ℕ → Type 0
+CellsPromised xs cells number after = SolveNumbered (puzzleOf xs) (marksIn xs) number cells after
+
+-- What a test of the call says, where the cells hold these bytes to begin with.
+abbrev pub CellsFrom : List ℕ → Bool → List ℕ → Type 0
+CellsFrom cells r xs = Compared r (CellsPromised xs cells) xs
+
+-- What a test of a record of Solve says.
+abbrev pub CellsFound : Bool → List ℕ → Type 0
+CellsFound r xs = Found r (CellsPromised xs (field xs 4)) xs

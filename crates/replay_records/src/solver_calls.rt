@@ -1,0 +1,130 @@
+// The calls of the solver, each run on the fields of a record.
+use crate::calls::ROOM;
+use crate::calls::buffer;
+use crate::calls::is_field;
+use crate::calls::is_number;
+use crate::calls::size;
+use crate::fields::field;
+use crate::fields::number;
+ghost use Prim.Native.Nat.{_<_};
+ghost use Rattle.replay_records.specs.Fields.{field as Fields·field};
+ghost use Rattle.replay_records.specs.Agreement.{Says};
+ghost use Rattle.replay_records.specs.SolverAgreement.{LongNumber, CountRecorded, CountFrom, CountAgrees};
+ghost use Rattle.replay_records.specs.SolverAgreement.{BufferRecorded, TableFrom, TableFound, CellsFrom, CellsFound};
+
+// Whether a number and a buffer are as recorded.
+fn buffer_recorded(list: &[u8], number: u8, content: &[u8]) -> bool
+    ensures { λ r. ⌜ Says r (BufferRecorded number (now (content .entry)) (now (list .entry))) ⌝ }
+{
+    if !is_number(list, 5, number) {
+        return false;
+    }
+    is_field(list, 6, content)
+}
+
+// Whether the candidates, with the table to begin with, come out as recorded.
+fn table_agrees(list: &[u8], table: &mut [u8]) -> bool
+    ensures { λ r. ⌜ TableFrom (now (table .entry)) r (now (list .entry)) ⌝ }
+{
+    let number = doppelblock::doppelblock_candidates(
+        size(list),
+        field(list, 1),
+        field(list, 2),
+        field(list, 3),
+        table,
+    );
+    buffer_recorded(list, number, table)
+}
+
+// Fields: size, rows, columns, marks, table before, answer, table after.
+pub(crate) fn candidates_agree(list: &[u8]) -> bool
+    ensures { λ r. ⌜ TableFound r (now (list .entry)) ⌝ }
+{
+    let table = field(list, 4);
+    let n = table.len();
+    if ROOM < n {
+        return false;
+    }
+    let mut room = buffer(table);
+    table_agrees(list, &mut room[..n])
+}
+
+// Whether Solve, with the cells to begin with, comes out as recorded.
+fn cells_agree(list: &[u8], cells: &mut [u8]) -> bool
+    ensures { λ r. ⌜ CellsFrom (now (cells .entry)) r (now (list .entry)) ⌝ }
+{
+    let number = doppelblock::doppelblock_solve(
+        size(list),
+        field(list, 1),
+        field(list, 2),
+        field(list, 3),
+        cells,
+    );
+    buffer_recorded(list, number, cells)
+}
+
+// Fields: size, rows, columns, marks, cells before, answer, cells after.
+pub(crate) fn solve_agrees(list: &[u8]) -> bool
+    ensures { λ r. ⌜ CellsFound r (now (list .entry)) ⌝ }
+{
+    let cells = field(list, 4);
+    let n = cells.len();
+    if ROOM < n {
+        return false;
+    }
+    let mut room = buffer(cells);
+    cells_agree(list, &mut room[..n])
+}
+
+// Whether field k is 8 bytes, the number.
+fn is_long_number(list: &[u8], k: usize, v: u64) -> bool
+    requires { ⌜ k < 8 ⌝ }
+    ensures { λ r. ⌜ Says r (LongNumber v (Fields·field (now (list .entry)) k)) ⌝ }
+{
+    let bytes = field(list, k);
+    if bytes.len() != 8 {
+        return false;
+    }
+    number(bytes) == v
+}
+
+// Whether a number and a count are as recorded.
+fn count_recorded(list: &[u8], answer: u8, count: u64) -> bool
+    ensures { λ r. ⌜ Says r (CountRecorded answer count (now (list .entry))) ⌝ }
+{
+    if !is_number(list, 6, answer) {
+        return false;
+    }
+    is_long_number(list, 7, count)
+}
+
+// Whether the count under a cap, with a count to begin with, comes out as recorded.
+fn capped_agrees(list: &[u8], cap: u64, old: u64) -> bool
+    ensures { λ r. ⌜ Says r (CountFrom cap old (now (list .entry))) ⌝ }
+{
+    let mut count = old;
+    let answer = doppelblock::doppelblock_count(
+        size(list),
+        field(list, 1),
+        field(list, 2),
+        field(list, 3),
+        cap,
+        &mut count,
+    );
+    count_recorded(list, answer, count)
+}
+
+// Fields: size, rows, columns, marks, cap, count before, answer, count after.
+pub(crate) fn count_agrees(list: &[u8]) -> bool
+    ensures { λ r. ⌜ Says r (CountAgrees (now (list .entry))) ⌝ }
+{
+    let cap = field(list, 4);
+    let old = field(list, 5);
+    if cap.len() != 8 {
+        return false;
+    }
+    if old.len() != 8 {
+        return false;
+    }
+    capped_agrees(list, number(cap), number(old))
+}
