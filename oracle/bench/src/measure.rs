@@ -128,17 +128,17 @@ impl Spread {
     }
 }
 
-fn sorted(values: impl Iterator<Item = f64>) -> Vec<f64> {
+pub fn sorted(values: impl Iterator<Item = f64>) -> Vec<f64> {
     let mut values: Vec<f64> = values.collect();
     values.sort_by(f64::total_cmp);
     values
 }
 
-fn quantile(sorted: &[f64], part: f64) -> f64 {
+pub fn quantile(sorted: &[f64], part: f64) -> f64 {
     sorted[((sorted.len() - 1) as f64 * part).round() as usize]
 }
 
-fn shown(nanoseconds: f64) -> String {
+pub fn shown(nanoseconds: f64) -> String {
     match nanoseconds {
         t if t < 1e4 => format!("{t:.1} ns"),
         t if t < 1e7 => format!("{:.1} us", t / 1e3),

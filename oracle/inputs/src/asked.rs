@@ -1,7 +1,7 @@
 use rand::{Rng, SeededRng};
 use rules::{BLACK, Mark};
 
-use crate::puzzles::puzzle_of;
+use crate::puzzles::{puzzle_of, random_targets};
 use crate::{Puzzle, any_byte, any_size, grid};
 
 /// What a searching call is asked: a puzzle and the bytes of its marks.
@@ -41,17 +41,10 @@ pub fn of_a_pinned_grid(rng: &mut SeededRng, size: usize) -> Asked {
     Asked::of(puzzle_of(size, &cells), &marks)
 }
 
-/// Targets without a plan, low ones more often, with marks that some grid of
-/// this size mostly keeps.
+/// Targets without a plan, with marks that some grid of this size mostly keeps.
 pub fn of_random_targets(rng: &mut SeededRng, size: usize) -> Asked {
     let cells = grid(rng, size);
-    let above = 1 + rng.below(rules::greatest_target(size) + 1);
-    let targets = |rng: &mut SeededRng| (0..size).map(|_| rng.below(above) as u8).collect();
-    let puzzle = Puzzle {
-        size,
-        rows: targets(rng),
-        columns: targets(rng),
-    };
+    let puzzle = random_targets(rng, size);
     let marks = any_marks(rng, size, &cells);
     Asked::of(puzzle, &marks)
 }

@@ -1,8 +1,9 @@
-//! Cells, lengths, puzzles and marks that the programs of the oracle draw. The same
-//! generator state gives the same input on every machine.
+//! Cells, lengths, puzzles, marks and lines that the programs of the oracle draw. The
+//! same generator state gives the same input on every machine.
 
 mod asked;
 mod cells;
+mod lines;
 mod puzzles;
 
 pub use asked::{
@@ -11,6 +12,7 @@ pub use asked::{
 pub use cells::{
     any_byte, blacks_of_a_grid, damage, grid, random_cells, sums_near_255, transposed,
 };
+pub use lines::{line_of, stream};
 pub use puzzles::{Puzzle, different_puzzles, puzzle, short_puzzle};
 pub use rand::{Rng, SeededRng};
 

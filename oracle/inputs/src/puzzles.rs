@@ -1,6 +1,6 @@
 use std::collections::HashSet;
 
-use rand::SeededRng;
+use rand::{Rng, SeededRng};
 use reference::{Limit, count_within, random_grid};
 
 /// The targets of one puzzle.
@@ -23,6 +23,17 @@ pub fn puzzle_of(size: usize, cells: &[u8]) -> Puzzle {
         size,
         rows,
         columns,
+    }
+}
+
+/// Targets without a plan, low ones more often.
+pub fn random_targets(rng: &mut SeededRng, size: usize) -> Puzzle {
+    let above = 1 + rng.below(rules::greatest_target(size) + 1);
+    let mut targets = || (0..size).map(|_| rng.below(above) as u8).collect();
+    Puzzle {
+        size,
+        rows: targets(),
+        columns: targets(),
     }
 }
 

@@ -5,6 +5,7 @@
 
 mod every;
 mod grids;
+mod line;
 mod marks;
 mod searching;
 mod sums;
@@ -12,6 +13,7 @@ mod table;
 
 pub use every::{LISTED, every_grid};
 pub use grids::{keeps_mark, satisfies, ways};
+pub use line::{LinePuzzle, line_puzzle};
 pub use marks::{Mark, marks_refusal};
 pub use searching::{candidates_refusal, count_refusal, marks_of, solve_refusal, word_bytes};
 pub use sums::{Sums, line_sum, mark_sheet, target_sums};
