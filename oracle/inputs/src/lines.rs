@@ -3,6 +3,7 @@
 
 use rand::{Rng, SeededRng};
 use reference::Limit;
+use rules::LinePuzzle;
 
 use crate::puzzles::{puzzle_of, random_targets};
 use crate::{Puzzle, any_size, grid};
@@ -19,51 +20,58 @@ pub fn line_of(puzzle: &Puzzle) -> Vec<u8> {
 }
 
 /// So many lines, drawn from this seed. The last one is a puzzle and lacks its
-/// line end.
+/// line end. Faults are put into puzzles of earlier lines: these are soon solved
+/// even by a program that does not see the fault.
 pub fn stream(seed: u64, count: usize) -> Vec<u8> {
     let mut rng = SeededRng::new(seed);
-    let line = |number| match number + 1 < count {
-        true => soon(&mut rng, any_line),
-        false => soon(&mut rng, good_line),
-    };
-    let lines: Vec<Vec<u8>> = (0..count).map(line).collect();
+    let mut puzzles = Vec::new();
+    let mut lines = Vec::new();
+    for number in 1..=count {
+        let is_good = puzzles.is_empty() || number == count || rng.below(16) < 6;
+        if is_good {
+            let puzzle = soon_solved(&mut rng);
+            lines.push(line_of(&puzzle));
+            puzzles.push(puzzle);
+        } else {
+            let puzzle = &puzzles[rng.below(puzzles.len())];
+            lines.push(faulty_line(&mut rng, puzzle));
+        }
+    }
     lines.join(&b'\n')
 }
 
-/// Draws until a line is refused or soon solved.
-fn soon(rng: &mut SeededRng, draw: fn(&mut SeededRng) -> Vec<u8>) -> Vec<u8> {
+/// The targets of a grid, or targets that mostly have none.
+fn soon_solved(rng: &mut SeededRng) -> Puzzle {
     loop {
-        let line = draw(rng);
-        let is_soon = rules::line_puzzle(&line).map_or(true, |puzzle| {
-            reference::solve_within(SOON, puzzle.size, &puzzle.rows, &puzzle.columns, &[]).is_some()
-        });
-        if is_soon {
-            return line;
+        let size = any_size(rng);
+        let puzzle = match rng.below(2) {
+            0 => random_targets(rng, size),
+            _ => puzzle_of(size, &grid(rng, size)),
+        };
+        if is_soon_solved(size, &puzzle.rows, &puzzle.columns) {
+            return puzzle;
         }
     }
 }
 
-fn any_line(rng: &mut SeededRng) -> Vec<u8> {
-    match rng.below(16) {
-        0..6 => good_line(rng),
-        6..10 => other_numbers(rng),
-        10..14 => other_bytes(rng),
-        14 => other_length(rng),
-        _ => random_bytes(rng),
-    }
+fn is_soon_solved(size: usize, rows: &[u8], columns: &[u8]) -> bool {
+    reference::solve_within(SOON, size, rows, columns, &[]).is_some()
 }
 
-fn good_line(rng: &mut SeededRng) -> Vec<u8> {
-    line_of(&any_puzzle(rng))
-}
-
-/// The targets of a grid, or targets that mostly have none.
-fn any_puzzle(rng: &mut SeededRng) -> Puzzle {
-    let size = any_size(rng);
-    if rng.below(2) == 0 {
-        random_targets(rng, size)
-    } else {
-        puzzle_of(size, &grid(rng, size))
+/// This puzzle's line with faults. Where they make another puzzle of it, that one
+/// has to be soon solved as well.
+fn faulty_line(rng: &mut SeededRng, puzzle: &Puzzle) -> Vec<u8> {
+    loop {
+        let line = match rng.below(10) {
+            0..4 => other_numbers(rng, puzzle),
+            4..8 => other_bytes(rng, puzzle),
+            8 => other_length(rng, puzzle),
+            _ => random_bytes(rng),
+        };
+        let is_soon = |read: LinePuzzle| is_soon_solved(read.size, &read.rows, &read.columns);
+        if rules::line_puzzle(&line).map_or(true, is_soon) {
+            return line;
+        }
     }
 }
 
@@ -79,9 +87,8 @@ fn joined(numbers: &[u128]) -> Vec<u8> {
 }
 
 /// Decimals with single spaces, and one or two faults among the numbers.
-fn other_numbers(rng: &mut SeededRng) -> Vec<u8> {
-    let puzzle = any_puzzle(rng);
-    let mut numbers = numbers_of(&puzzle);
+fn other_numbers(rng: &mut SeededRng, puzzle: &Puzzle) -> Vec<u8> {
+    let mut numbers = numbers_of(puzzle);
     for _ in 0..=rng.below(2) {
         damage_numbers(rng, puzzle.size, &mut numbers);
     }
@@ -106,8 +113,8 @@ fn damage_numbers(rng: &mut SeededRng, size: usize, numbers: &mut Vec<u128>) {
 }
 
 /// A puzzle's line in which one to three bytes are wrong.
-fn other_bytes(rng: &mut SeededRng) -> Vec<u8> {
-    let mut line = good_line(rng);
+fn other_bytes(rng: &mut SeededRng, puzzle: &Puzzle) -> Vec<u8> {
+    let mut line = line_of(puzzle);
     for _ in 0..=rng.below(3) {
         damage_bytes(rng, &mut line);
     }
@@ -143,8 +150,8 @@ fn put_before_a_number(rng: &mut SeededRng, line: &mut Vec<u8>, byte: u8) {
 
 /// Lengths around the limit and around those that a counter of 8 or 16 bits could
 /// take for a shorter one.
-fn other_length(rng: &mut SeededRng) -> Vec<u8> {
-    let line = good_line(rng);
+fn other_length(rng: &mut SeededRng, puzzle: &Puzzle) -> Vec<u8> {
+    let line = line_of(puzzle);
     let length = match rng.below(64) {
         0 => 65_536 + rng.below(82),
         1..4 => 1000 + rng.below(4000),
