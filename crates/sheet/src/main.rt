@@ -1,4 +1,4 @@
-// Answers the puzzles on standard input, line by line, on standard output (document 01, "The program `sheet`").
+// Answers the puzzles on standard input, line by line, on standard output (docs/INTERFACE.md, "The program `sheet`").
 // What is read and written is not in any contract: sheet_stream says what the bytes are.
 use libc::STDIN_FILENO;
 use libc::STDOUT_FILENO;
