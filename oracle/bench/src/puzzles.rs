@@ -15,8 +15,12 @@ const CHOSEN_FROM: u64 = 200;
 /// The searching calls count up to two grids.
 pub const CAP: usize = 2;
 
-/// 1,000 puzzles of size 6 or 8, and the chosen ones of size 9.
+/// 1,000 puzzles of a size up to 8, and the chosen ones of size 9.
 pub fn timed(size: usize) -> Vec<Puzzle> {
+    // The small sizes have too few puzzles for 1,000 different ones.
+    if size < 6 {
+        return (0..1000).map(|number| puzzle(size, number)).collect();
+    }
     if size < 9 {
         return different_puzzles(size, 1000);
     }

@@ -11,7 +11,10 @@ use crate::puzzles::{CAP, timed};
 /// Some passes over these puzzles take half a minute, so each table has its own
 /// number of rounds.
 pub fn run(rounds: usize) {
-    for (size, most, repeats) in [(6, 9, 3), (8, 3, 1), (9, 3, 1)] {
+    for size in 2..6 {
+        table("count to cap 2", size, rounds, 20, count);
+    }
+    for (size, most, repeats) in [(6, 9, 3), (7, 9, 1), (8, 3, 1), (9, 3, 1)] {
         table("count to cap 2", size, rounds.min(most), repeats, count);
     }
     for size in [6, 8] {
