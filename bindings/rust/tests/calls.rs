@@ -59,7 +59,7 @@ fn sheets_are_marked() {
     );
 }
 
-/// The puzzle of document 01 with two grids.
+/// The puzzle of the requirements with two grids.
 const TWO: ([u8; 3], [u8; 3]) = ([0, 1, 0], [0, 1, 0]);
 
 fn count_two(marks: &[u8], cap: u64) -> Result<u64, Refusal> {

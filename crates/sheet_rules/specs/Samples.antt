@@ -25,7 +25,7 @@ spaced [] = []
 spaced (d ∷ []) = (48 + d) ∷ []
 spaced (d ∷ (e ∷ ds)) = (48 + d) ∷ 32 ∷ spaced (e ∷ ds)
 
--- ---- the four lines of document 01
+-- ---- the four lines of docs/sample-sheets.txt
 
 -- 3 1 0 0 1 0 0: unique #1#/1##/##1
 pub sample-one : sampleText (spaced (3 ∷ 1 ∷ 0 ∷ 0 ∷ 1 ∷ 0 ∷ 0 ∷ [])) corner ≡ 117 ∷ 110 ∷ 105 ∷ 113 ∷ 117 ∷ 101 ∷ 32 ∷ 35 ∷ 49 ∷ 35 ∷ 47 ∷ 49 ∷ 35 ∷ 35 ∷ 47 ∷ 35 ∷ 35 ∷ 49 ∷ []

@@ -12,15 +12,13 @@ use Rattle.sheet_rules.specs.Stream.{lineEnd, Written, nothing, byte, ended, no
 use Rattle.sheet_text.specs.Put.{Put}
 use Rattle.sheet_text.specs.PutLaws.{put-none, put-byte, put-both}
 use Rattle.sheet_line.specs.Line.{LineText, LineGiven}
+use Rattle.sheet_line.specs.PuzzleTextLaws.{front-long}
 use Rattle.sheet_stream.specs.declared.Fed.{Fed}
 use Rattle.sheet_stream.specs.declared.Progress.{Progress}
 use Rattle.sheet_stream.specs.Fed.{Keeps, KeptAsk, EndAsk, ByteAsk, ByteKept, LineEnded, GoesOn, ByteFed, BlockFed, LastGiven}
 use Rattle.sheet_stream.specs.StreamLaws.{answered-kept, written-then}
 
 -- ---- the bytes that are kept
-
-pub front-long : (k : ℕ) (l : List ℕ) → k ≤ length l → k ≡ length (take k l)
-front-long k l h = sym (length-take-le k l h)
 
 -- how long the line is, as far as it is kept
 reach : (kept : List ℕ) (k : ℕ) (line : List ℕ) → k ≤ 81 → 81 ≤ length kept → Keeps kept k line → k ≡ length (take 81 line)

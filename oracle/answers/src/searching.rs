@@ -13,7 +13,7 @@ pub const LIMIT: Limit = Limit::Nodes(200);
 /// Enough to meet every answer of every size.
 const DRAWS: usize = 120;
 
-/// Records of a call on drawn inputs and on the sample sheets of document 01;
+/// Records of a call on drawn inputs and on the sample sheets of the requirements;
 /// `record` gives none where the search is too long. The first byte of what it
 /// gives is the kind of answer, of which each size gets up to `of_each`.
 pub fn answered(
@@ -47,7 +47,7 @@ fn drawn(rng: &mut SeededRng, size: usize) -> Asked {
     asked
 }
 
-/// Puzzles and marks of document 01, and a contradiction that propagation does
+/// Puzzles and marks of the requirements, and a contradiction that propagation does
 /// not see.
 fn named() -> Vec<Asked> {
     vec![
@@ -64,7 +64,7 @@ fn named() -> Vec<Asked> {
     ]
 }
 
-/// The puzzle of document 01 that has two grids.
+/// The puzzle of the requirements that has two grids.
 pub fn two_grids(marks: &[u16]) -> Asked {
     puzzle(&[0, 1, 0], &[0, 1, 0], marks)
 }

@@ -1,4 +1,4 @@
-//! The sample sheets of document 01, answered by the published Rust.
+//! The sample sheets of the requirements, answered by the published Rust.
 
 use reference::{Limit, Solved, accepts, candidates, count, solve};
 use rules::BLACK as B;

@@ -1,4 +1,4 @@
-//! What each call has to answer, written from document 01 and from nothing
+//! What each call has to answer, written from the requirements and from nothing
 //! else: neither the engine nor the published Rust enters here.
 //!
 //! A refusal is its number. Where a call refuses, it writes nothing.

@@ -1,4 +1,4 @@
-//! The lines of the program `sheet`, by document 01.
+//! The lines of the program `sheet`, by the requirements.
 
 use std::collections::HashSet;
 

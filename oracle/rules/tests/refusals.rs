@@ -1,4 +1,4 @@
-//! The first fault in the order of document 01 decides.
+//! The first fault in the order of the requirements decides.
 
 use rules::{BLACK as B, Mark, line_sum, mark_sheet, marks_refusal, target_sums};
 

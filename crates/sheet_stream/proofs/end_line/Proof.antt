@@ -1,6 +1,7 @@
 -- `sheet_stream::end_line` meets its contract. Assumes nothing.
 use native.Mathlib.Omega.{arith}
-use Rattle.sheet_stream.specs.FedLaws.{front-long, ended-count, ended-room, line-ended}
+use Rattle.sheet_line.specs.PuzzleTextLaws.{front-long}
+use Rattle.sheet_stream.specs.FedLaws.{ended-count, ended-room, line-ended}
 use borrow.Author.Needs.{needs}
 use Rattle.sheet_stream.proofs.end_line.Statement.{statement}
 use Rattle.sheet_stream.proofs.end_line.Tie as tie

@@ -1,6 +1,7 @@
 -- `sheet_stream::feed_byte` meets its contract. Assumes nothing.
 use native.Mathlib.Omega.{arith}
-use Rattle.sheet_stream.specs.FedLaws.{front-long, fed-end, fed-byte}
+use Rattle.sheet_line.specs.PuzzleTextLaws.{front-long}
+use Rattle.sheet_stream.specs.FedLaws.{fed-end, fed-byte}
 use borrow.Author.Needs.{needs}
 use Rattle.sheet_stream.proofs.feed_byte.Statement.{statement}
 use Rattle.sheet_stream.proofs.feed_byte.Tie as tie

@@ -1,6 +1,7 @@
 -- `sheet_stream::feed_end` meets its contract. Assumes nothing.
 use native.Mathlib.Omega.{arith}
-use Rattle.sheet_stream.specs.FedLaws.{front-long, last-none, last-line}
+use Rattle.sheet_line.specs.PuzzleTextLaws.{front-long}
+use Rattle.sheet_stream.specs.FedLaws.{last-none, last-line}
 use borrow.Author.Needs.{needs}
 use Rattle.sheet_stream.proofs.feed_end.Statement.{statement}
 use Rattle.sheet_stream.proofs.feed_end.Tie as tie
