@@ -1,24 +1,25 @@
 -- Adding arrangements to a line, one after the other. Assumes nothing.
 use Prim.Native.Nat.{ℕ, zero, suc, _+_, _-_, _*_, _/_, _%_, _^_, _≤_, _<_}
 use mathlib.Core.Path.{_≡_, refl, sym, ap, ap₂, _∙_}
-use mathlib.Core.Bool.{Bool, true, false, _&&_, cond}
+use mathlib.Core.Bool.{Bool, true, false, cond}
 use mathlib.Core.List.{List, [], _∷_, _++_, map, append-assoc, append-nil, map-append}
 use native.Mathlib.Omega.{arith}
-use lib.Dec.{eqb, ltb, leb}
+use lib.Dec.{ltb, leb}
 use lib.ListN.{length, getD, set, length-set, length-append, length-map}
-use borrow.Author.Tests.{eq-eqb, ne-eqb, ltb-true}
+use borrow.Author.Tests.{leb-true, lt-ltb, le-ltb}
 use lib.Seq.{getD-set-same, getD-set-other}
-use Rattle.tally.specs.Tally.{span, keep, join}
+use Rattle.tally.specs.Tally.{span, all, keep, join}
 use Rattle.tally.specs.Tally as tally
-use Rattle.tally.specs.TallyLaws.{span-length, and-right}
+use Rattle.tally.specs.TallyLaws.{span-length, span-mem}
+use Rattle.tally.specs.WayLaws.{all-each}
 use Rattle.checks.specs.Strided.{map-next}
 use Rattle.bits.specs.BitLaws.{shl-one}
-use Rattle.words.specs.Word.{maskIn, sumIn, sizeIn, Known, wordOf, part}
+use Rattle.words.specs.Word.{maskIn, sizeIn, sumTable, fromSum, Known, wordOf, part}
 use Rattle.words.specs.WordFacts.{subset-fits}
 use Rattle.words.specs.PatternLaws.{part-lt}
 use Rattle.words.specs.WordLaws.{known-shaped}
 use Rattle.arcs.specs.Arc.{blackAt, lives, live, support}
-use Rattle.listing.specs.Numbers.{scan, onSide, startsFrom, wanted, sideFrom}
+use Rattle.listing.specs.Numbers.{scan, onSide, startsFrom, ofSize, sideFrom, sideOf}
 use Rattle.listing.specs.Listing.{listOf, Raised, WordAsk, Added, Addable, Adding, StartsAsk}
 
 -- ---- lists
@@ -243,36 +244,54 @@ module _ {n ℓ k : ℕ} {ws l₀ l whole : List ℕ} (outside : Bool) (s len a 
   unfolding startsFrom
   starts-end h = scan-done _ _ a n d h
 
--- the test of a subset, as the code makes it
-abbrev pub picks : ℕ → ℕ → ℕ → Bool
-picks n want s = eqb (sumIn s) want && ltb (maskIn s) (1 * 2 ^ (n - 1) % 65536)
-
 -- the subsets of one side
-module _ {n ℓ k : ℕ} {ws l₀ l whole : List ℕ} (outside : Bool) (want s : ℕ) (d : Adding n ℓ k ws l₀ l (sideFrom n outside want s) whole) where
-  is-wanted : (b : Bool) → b ≡ picks n want s → b ≡ wanted n want s
-  unfolding wanted
-  is-wanted b e = e ∙ rw (shl-one (n - 1) (omega (arith, d .ask .size .high)))
+module _ {n ℓ k : ℕ} {ws l₀ l whole : List ℕ} (outside : Bool) (s m : ℕ) (d : Adding n ℓ k ws l₀ l (sideFrom n outside s m) whole) (h : s < m) where
+  -- `1 << n - 1` of 16 bits
+  top : 1 * 2 ^ (n - 1) % 65536 ≡ 2 ^ (n - 1)
+  top = shl-one (n - 1) (omega (arith, d .ask .size .high))
 
-  pub side-ask : (b : Bool) → b ≡ picks n want s → s < 128 → b ≡ true → (len : ℕ) → len ≡ sizeIn s →
+  fits : maskIn s < 1 * 2 ^ (n - 1) % 65536 → ofSize n s ≡ true
+  unfolding ofSize
+  fits t = lt-ltb (maskIn s) (2 ^ (n - 1)) (rw top at t)
+
+  pub side-ask : m ≤ 128 → maskIn s < 1 * 2 ^ (n - 1) % 65536 → (len : ℕ) → len ≡ sizeIn s →
       Addable n ℓ k ws l (startsFrom n outside s len 0) × StartsAsk n s len
-  unfolding sideFrom wanted
-  side-ask b e h t len f =
-      let w : wanted n want s ≡ true = sym (is-wanted b e) ∙ t in
-      let m = ltb-true (maskIn s) (2 ^ (n - 1)) (and-right (eqb (sumIn s) want) _ w) in
-      rw f (scan-ask _ _ s 128 d h w, record { among = h; digits = m; few = subset-fits s h n (d .ask .size) m })
-
-  pub side-next : (b : Bool) → b ≡ picks n want s → s < 128 → b ≡ true → (len : ℕ) → len ≡ sizeIn s → {l′ : List ℕ} →
-      Added n ℓ l l′ (startsFrom n outside s len 0) → Adding n ℓ k ws l₀ l′ (sideFrom n outside want (s + 1)) whole
   unfolding sideFrom
-  side-next b e h t len f r = scan-next _ _ s 128 d h (sym (is-wanted b e) ∙ t) (rw f at r)
+  side-ask b t len f =
+      let i : s < 128 = omega arith in
+      let q : maskIn s < 2 ^ (n - 1) = rw top at t in
+      rw f (scan-ask _ _ s m d h (fits t), record { among = i; digits = q; few = subset-fits s i n (d .ask .size) q })
 
-  pub side-skip : (b : Bool) → b ≡ picks n want s → s < 128 → b ≡ false → Adding n ℓ k ws l₀ l (sideFrom n outside want (s + 1)) whole
+  pub side-next : maskIn s < 1 * 2 ^ (n - 1) % 65536 → (len : ℕ) → len ≡ sizeIn s → {l′ : List ℕ} →
+      Added n ℓ l l′ (startsFrom n outside s len 0) → Adding n ℓ k ws l₀ l′ (sideFrom n outside (s + 1) m) whole
   unfolding sideFrom
-  side-skip b e h t = scan-skip _ _ s 128 d h (sym (is-wanted b e) ∙ t)
+  side-next t len f r = scan-next _ _ s m d h (fits t) (rw f at r)
 
-  pub side-end : 128 ≤ s → Added n ℓ l₀ l whole
-  unfolding sideFrom
-  side-end h = scan-done _ _ s 128 d h
+  pub side-skip : 1 * 2 ^ (n - 1) % 65536 ≤ maskIn s → Adding n ℓ k ws l₀ l (sideFrom n outside (s + 1) m) whole
+  unfolding sideFrom ofSize
+  side-skip t = scan-skip _ _ s m d h (le-ltb (maskIn s) (2 ^ (n - 1)) (rw top at t))
+
+pub side-end : {n ℓ k : ℕ} {ws l₀ l whole : List ℕ} (outside : Bool) (s m : ℕ) → Adding n ℓ k ws l₀ l (sideFrom n outside s m) whole → m ≤ s →
+    Added n ℓ l₀ l whole
+unfolding sideFrom
+side-end outside s m d h = scan-done _ _ s m d h
+
+-- those of one sum
+sum-tests : all (λ k. leb (fromSum k) 128) (span 0 30) ≡ true
+unfolding fromSum sumTable span all
+sum-tests = refl
+
+module _ {n ℓ : ℕ} {l : List ℕ} (outside : Bool) (want from to : ℕ) (e : from ≡ fromSum want) (f : to ≡ fromSum (want + 1)) where
+  pub sum-ask : {k : ℕ} {ws : List ℕ} → Addable n ℓ k ws l (sideOf n outside want) × (want < 29) →
+      Addable n ℓ k ws l (sideFrom n outside from to) × (to ≤ 128)
+  unfolding sideOf
+  sum-ask a =
+      let t = all-each (λ k. leb (fromSum k) 128) (span-mem 0 30 (want + 1) (omega arith) (omega (arith, a .1))) sum-tests in
+      rw (e, f) (a .0, leb-true (fromSum (want + 1)) 128 t)
+
+  pub sum-added : {l′ : List ℕ} → Added n ℓ l l′ (sideFrom n outside from to) → Added n ℓ l l′ (sideOf n outside want)
+  unfolding sideOf
+  sum-added r = rw (e, f) at r
 
 -- ---- the tests of the code
 
@@ -284,9 +303,3 @@ module _ (n end : ℕ) (outside : Bool) where
   pub side-in : outside ≡ false → leb end n ≡ onSide n outside end
   unfolding onSide
   side-in e = rw e
-
-pub wanted-yes : (x a want top : ℕ) → a ≡ x / 256 % 32 → a ≡ want → ltb (x % 256) top ≡ (eqb (x / 256 % 32) want && ltb (x % 256) top)
-wanted-yes x a want top e f = rw (eq-eqb (x / 256 % 32) want (sym e ∙ f))
-
-pub wanted-no : (x a want top : ℕ) → a ≡ x / 256 % 32 → (a ≡ want → ⊥) → false ≡ (eqb (x / 256 % 32) want && ltb (x % 256) top)
-wanted-no x a want top e f = rw (ne-eqb (x / 256 % 32) want (λ d. f (e ∙ d)))

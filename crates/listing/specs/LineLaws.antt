@@ -7,8 +7,11 @@ use mathlib.Core.List.{List, _++_, map, map-map}
 use native.Mathlib.Omega.{arith}
 use native.Mathlib.Decide.{ℕ-discrete}
 use lib.ListN.{getD}
-use borrow.Author.Tests.{lt-ltb, le-ltb}
-use Rattle.tally.specs.Tally.{span}
+use lib.Dec.{leb}
+use borrow.Author.Tests.{lt-ltb, le-ltb, leb-true}
+use Rattle.tally.specs.Tally.{span, all}
+use Rattle.tally.specs.TallyLaws.{span-mem}
+use Rattle.tally.specs.WayLaws.{all-each}
 use Rattle.tally.specs.Tally as tally
 use Rattle.bits.specs.Sum.{sum}
 use Rattle.bits.specs.SumLaws.{sum-zero, sum-first, sum-same}
@@ -17,25 +20,36 @@ use Rattle.rules.specs.Check.{maxTarget}
 use Rattle.words.specs.Word.{arrangementOf, wordOf, part}
 use Rattle.fresh.specs.Fresh.{Fresh}
 use Rattle.arcs.specs.Arc.{blackAt, LineOf, lives, live, support}
-use Rattle.listing.specs.Numbers.{sideFrom, numbersFor}
+use Rattle.listing.specs.Numbers.{sideOf, numbersFor}
 use Rattle.listing.specs.NumberFacts.{numbers-few, numbers-are, numbers-known}
 use Rattle.listing.specs.Listing.{listOf, Elsewhere, Added, Addable, Unlisted, Lists, LinesAsk, LinesTo, targetAt, OpenAsk, Arranged}
 use Rattle.listing.specs.AddLaws.{map-same, added-lives, added-both, addable-first, addable-after}
 
 -- ---- one line: the inside ones, then the outside ones
 
+-- the greatest sum that is looked up
+most-sums : all (λ n. leb (maxTarget n) 28) (span 2 8) ≡ true
+unfolding maxTarget span all
+most-sums = refl
+
 module _ {n ℓ k : ℕ} {ws l : List ℕ} (t m : ℕ) (e : m ≡ maxTarget n) (a : Addable n ℓ k ws l (numbersFor n t)) where
-  parts : numbersFor n t ≡ sideFrom n false t 0 ++ sideFrom n true (m - t) 0
+  most : m ≤ 28
+  most =
+      let z = a .size in
+      let b = all-each (λ n. leb (maxTarget n) 28) (span-mem 2 8 n (z .low) (omega (arith, z .high))) most-sums in
+      omega (arith, e, leb-true (maxTarget n) 28 b)
+
+  parts : numbersFor n t ≡ sideOf n false t ++ sideOf n true (m - t)
   unfolding numbersFor
   parts = rw e
 
-  pub inside-ask : Addable n ℓ k ws l (sideFrom n false t 0)
-  inside-ask = addable-first _ (sideFrom n true (m - t) 0) (rw parts at a)
+  pub inside-ask : t ≤ maxTarget n → Addable n ℓ k ws l (sideOf n false t) × (t < 29)
+  inside-ask h = (addable-first _ (sideOf n true (m - t)) (rw parts at a), omega (arith, most, e))
 
-  pub outside-ask : {l₁ : List ℕ} → Added n ℓ l l₁ (sideFrom n false t 0) → Addable n ℓ k ws l₁ (sideFrom n true (m - t) 0)
-  outside-ask r = addable-after (sideFrom n false t 0) _ (rw parts at a) r
+  pub outside-ask : {l₁ : List ℕ} → Added n ℓ l l₁ (sideOf n false t) → Addable n ℓ k ws l₁ (sideOf n true (m - t)) × (m - t < 29)
+  outside-ask r = (addable-after (sideOf n false t) _ (rw parts at a) r, omega (arith, most))
 
-  pub line-added : {l₁ l₂ : List ℕ} → Added n ℓ l l₁ (sideFrom n false t 0) → Added n ℓ l₁ l₂ (sideFrom n true (m - t) 0) → Added n ℓ l l₂ (numbersFor n t)
+  pub line-added : {l₁ l₂ : List ℕ} → Added n ℓ l l₁ (sideOf n false t) → Added n ℓ l₁ l₂ (sideOf n true (m - t)) → Added n ℓ l l₂ (numbersFor n t)
   line-added r s = rw parts (added-both r s)
 
 -- ---- a line that lists nothing yet

@@ -15,8 +15,8 @@ use Rattle.rules.specs.Check.{maxTarget}
 use Rattle.rules.specs.Arrangement.{Arrangement, subsets, subsetsWith, fromStarts, insides, outsides, arrangements}
 use Rattle.bits.specs.Bit.{bit}
 use Rattle.checks.specs.SizeLaws.{Size}
-use Rattle.words.specs.Word.{subsetTable, subset, maskIn, digitsOf, arrangementOf, Known}
-use Rattle.listing.specs.Numbers.{scan, onSide, startsFrom, wanted, sideFrom, numbersFor}
+use Rattle.words.specs.Word.{subsetTable, subset, sumTable, fromSum, maskIn, digitsOf, arrangementOf, Known}
+use Rattle.listing.specs.Numbers.{scan, onSide, startsFrom, ofSize, sideFrom, sideOf, numbersFor}
 
 -- ---- equal arrangements, by a test
 
@@ -45,7 +45,7 @@ list-test n t =
 
 list-tests : all (λ n. all (list-test n) (span 0 (maxTarget n + 1))) (span 2 8) ≡ true
 unfolding
-    list-test known-test sameAll sameOne alike same numbersFor sideFrom wanted startsFrom onSide scan arrangementOf digitsOf subset subsetTable
+    list-test known-test sameAll sameOne alike same numbersFor sideOf sideFrom ofSize fromSum sumTable startsFrom onSide scan arrangementOf digitsOf subset subsetTable
     arrangements insides outsides fromStarts subsetsWith subsets digits meets maxTarget span all keep join sum bit
 list-tests = refl
 

@@ -4,16 +4,15 @@ use slab::Slab;
 use slab::wide;
 use words::Subset;
 use words::first_of;
+use words::from_sum;
 use words::second_of;
 use words::set_of;
 ghost use mathlib.Core.Path.{_≡_};
-ghost use mathlib.Core.Bool.{_&&_};
 ghost use mathlib.Core.List.{_∷_, []};
-ghost use Prim.Native.Nat.{ℕ, _+_, _*_, _/_, _%_, _≤_, _<_};
-ghost use lib.Dec.{eqb, ltb};
+ghost use Prim.Native.Nat.{ℕ, _≤_, _<_};
 ghost use Rattle.rules.specs.Check.{maxTarget};
 ghost use Rattle.words.specs.Word.{part, Known};
-ghost use Rattle.listing.specs.Numbers.{onSide, startsFrom, sideFrom, numbersFor};
+ghost use Rattle.listing.specs.Numbers.{onSide, startsFrom, sideFrom, sideOf, numbersFor};
 ghost use Rattle.listing.specs.Listing.{Raised, one, digitsAt, innerTo, Raisable, WordAsk, Added, Addable, StartsAsk};
 ghost use Rattle.listing.specs.Listing.{LinesAsk, LinesTo, OpenAsk, Arranged};
 
@@ -106,14 +105,29 @@ fn open_starts(
     }
 }
 
-// The subset with code x has the sum that is wanted, and only digits below top.
-fn is_wanted(x: u16, want: usize, top: u16) -> bool
-    ensures { λ r. ⌜ r ≡ (eqb (x / 256 % 32) want && ltb (x % 256) top) ⌝ }
+// The arrangements of one side with the subsets from .. to.
+fn open_subsets(
+    st: &mut [u16],
+    words: &[u32],
+    n: usize,
+    line: usize,
+    first: usize,
+    outside: bool,
+    from: usize,
+    to: usize,
+)
+    requires { ⌜ Addable n line first (now words) (now st) (sideFrom n outside from to) × (to ≤ 128) ⌝ }
+    ensures { λ _. ⌜ Added n line (now (st .entry)) (now (st .exit)) (sideFrom n outside from to) ⌝ }
 {
-    if wide(x / 256 % 32) == want {
-        x % 256 < top
-    } else {
-        false
+    let top = 1u16 << (n - 1);
+    let subsets = Subset::ALL;
+    let mut s = from;
+    while s < to {
+        let x = subsets[s];
+        if x % 256 < top {
+            open_starts(st, words, n, line, first, outside, s, wide(x / 8192));
+        }
+        s += 1;
     }
 }
 
@@ -127,19 +141,19 @@ fn open_side(
     outside: bool,
     want: usize,
 )
-    requires { ⌜ Addable n line first (now words) (now st) (sideFrom n outside want 0) ⌝ }
-    ensures { λ _. ⌜ Added n line (now (st .entry)) (now (st .exit)) (sideFrom n outside want 0) ⌝ }
+    requires { ⌜ Addable n line first (now words) (now st) (sideOf n outside want) × (want < 29) ⌝ }
+    ensures { λ _. ⌜ Added n line (now (st .entry)) (now (st .exit)) (sideOf n outside want) ⌝ }
 {
-    let top = 1u16 << (n - 1);
-    let subsets = Subset::ALL;
-    let mut s = 0;
-    while s < 128 {
-        let x = subsets[s];
-        if is_wanted(x, want, top) {
-            open_starts(st, words, n, line, first, outside, s, wide(x / 8192));
-        }
-        s += 1;
-    }
+    open_subsets(
+        st,
+        words,
+        n,
+        line,
+        first,
+        outside,
+        from_sum(want),
+        from_sum(want + 1),
+    );
 }
 
 // The arrangements of a line with a target: the inside ones have its sum, the outside ones leave it.

@@ -38,6 +38,15 @@ sumIn s = subset s / 256 % 32
 abbrev pub sizeIn : ℕ → ℕ
 sizeIn s = subset s / 8192
 
+-- Where the subsets of each sum from 0 to 28 begin, and where the last ends.
+unfoldable pub sumTable : List ℕ
+sumTable =
+    0 ∷ 1 ∷ 2 ∷ 3 ∷ 5 ∷ 7 ∷ 10 ∷ 14 ∷ 19 ∷ 24 ∷ 30 ∷ 37 ∷ 44 ∷ 52 ∷ 60 ∷ 68 ∷ 76 ∷ 84 ∷ 91 ∷ 98 ∷ 104 ∷ 109 ∷ 114 ∷ 118 ∷ 121 ∷ 123 ∷ 125 ∷ 126 ∷ 127 ∷ 128 ∷ []
+
+-- Where those of sum k begin.
+unfoldable pub fromSum : ℕ → ℕ
+fromSum k = getD sumTable k 0
+
 -- The digits of a mask, rising.
 unfoldable pub digitsOf : ℕ → List ℕ
 digitsOf mask = keep (λ d. eqb (bit d mask) 1) (span 1 7)

@@ -5,7 +5,7 @@ ghost use mathlib.Core.Path.{_≡_};
 ghost use Prim.Native.Nat.{_+_, _≤_, _<_};
 ghost use lib.ListN.{length};
 ghost use Rattle.checks.specs.SizeLaws.{Size};
-ghost use Rattle.words.specs.Word.{setOf, firstOf, secondOf, coveredOf, innerPlaces, wordFrom, fromOf, toOf, headOf, lastOf, Words};
+ghost use Rattle.words.specs.Word.{fromSum, setOf, firstOf, secondOf, coveredOf, innerPlaces, wordFrom, fromOf, toOf, headOf, lastOf, Words};
 ghost use Rattle.words.specs.FillLaws.{FillAsk, Filled};
 
 pub struct Subset {
@@ -144,6 +144,48 @@ impl Subset {
         56316,
         64766,
     ];
+    // Where the subsets of each sum from 0 to 28 begin, and where the last ends.
+    pub const FROM_SUM: [usize; 30] = [
+        0,
+        1,
+        2,
+        3,
+        5,
+        7,
+        10,
+        14,
+        19,
+        24,
+        30,
+        37,
+        44,
+        52,
+        60,
+        68,
+        76,
+        84,
+        91,
+        98,
+        104,
+        109,
+        114,
+        118,
+        121,
+        123,
+        125,
+        126,
+        127,
+        128,
+    ];
+}
+
+// Where the subsets of sum k begin; after the last sum, where they end.
+pub fn from_sum(k: usize) -> usize
+    requires { ⌜ k < 30 ⌝ }
+    ensures { λ r. ⌜ r ≡ fromSum k ⌝ }
+{
+    let places = Subset::FROM_SUM;
+    places[k]
 }
 
 // The set of digits.

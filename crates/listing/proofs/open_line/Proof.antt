@@ -11,7 +11,9 @@ sub-other : tie.Need-sub-other
 sub-other c = search needs
 
 open-side-requires : tie.Need-open-side-requires
-open-side-requires c κs = inside-ask _ _ (c .before .max-target .ensures) (c .before .before .before .before .pre .0)
+open-side-requires c κs =
+    let a = c .before .before .before .before in
+    inside-ask _ _ (c .before .max-target .ensures) (a .pre .0) (a .pre .1)
 
 open-side-requires-2 : tie.Need-open-side-requires-2
 open-side-requires-2 c κs =

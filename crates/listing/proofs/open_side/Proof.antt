@@ -1,91 +1,31 @@
 -- `listing::open_side` meets its contract. Assumes nothing.
-use Rattle.listing.specs.AddLaws.{adding-start, side-ask, side-next, side-skip, side-end}
-use Rattle.listing.specs.Listing.{Adding}
-use Rattle.listing.specs.Numbers.{sideFrom}
-use Rattle.words.specs.Word.{subset, subsetTable}
-use mathlib.Core.Logic.{⊎-elim}
-use Prim.Native.Nat.{_-_}
+use Rattle.listing.specs.AddLaws.{sum-ask, sum-added}
 use borrow.Author.Needs.{needs}
 use Rattle.listing.proofs.open_side.Statement.{statement}
 use Rattle.listing.proofs.open_side.Tie as tie
 
-abbrev Inv-loop : tie.InvT-loop
-Inv-loop st₀ words n line first outside want top subsets s₀ st s = Adding n line first words st₀ st (sideFrom n outside want s) (sideFrom n outside want 0)
+from-sum-requires : tie.Need-from-sum-requires
+from-sum-requires c κs = search needs
 
-abbrev μ-loop : tie.MeasureT-loop
-μ-loop st₀ words n line first outside want top subsets s₀ st s = 128 - s
+add-from-sum : tie.Need-add-from-sum
+add-from-sum c = search needs
 
-sub-top : tie.Need-sub-top Inv-loop μ-loop
-sub-top c = search needs
+from-sum-requires-2 : tie.Need-from-sum-requires-2
+from-sum-requires-2 c κs = search needs
 
-cast-top : tie.Need-cast-top Inv-loop μ-loop
-cast-top c = search needs
-
-shl-top : tie.Need-shl-top Inv-loop μ-loop
-shl-top c = search needs
-
-loop-holds : tie.Need-loop-holds Inv-loop μ-loop
-loop-holds c = adding-start (c .before .before .pre)
-
-mul-x : tie.Need-mul-x Inv-loop μ-loop
-mul-x c = search needs
-
-array-read-x : tie.Need-array-read-x Inv-loop μ-loop
-array-read-x c = search needs
-
-is-wanted-requires : tie.Need-is-wanted-requires Inv-loop μ-loop
-is-wanted-requires c κs = search needs
-
-wide-requires : tie.Need-wide-requires Inv-loop μ-loop
-wide-requires c κs = search needs
-
-open-starts-requires : tie.Need-open-starts-requires Inv-loop μ-loop
-unfolding subset subsetTable
-open-starts-requires c κs =
-    let b = c .before .before .before in
-    let a = b .before .before in
-    side-ask _ _ _ (a .loop .inv) _ (b .is-wanted .ensures) (b .before .loop-test .taken) (c .before .before .if1 .taken) _ (c .wide .ensures)
-
-add-s : tie.Need-add-s Inv-loop μ-loop
-add-s c = search needs
-
-loop-less : tie.Need-loop-less Inv-loop μ-loop
-loop-less c = search needs
-
-loop-again : tie.Need-loop-again Inv-loop μ-loop
-unfolding subset subsetTable
-loop-again c =
+open-subsets-requires : tie.Need-open-subsets-requires
+open-subsets-requires c κs =
     let b = c .before in
-    let g = b .before .before .loop .inv in
-    let h = b .before .loop-test .taken in
-    let e = b .is-wanted .ensures in
-    ⊎-elim
-    (λ w. rw (w .6) (side-next _ _ _ g _ e h (w .0 .taken) _ (w .2 .ensures) (w .3 .ensures)))
-    (λ w. rw (w .1) (side-skip _ _ _ g _ e h (w .0 .left))) (c .if1 .came)
+    sum-ask _ _ _ _ (b .from-sum .ensures) (c .from-sum2 .ensures) (b .before .before .before .before .pre)
 
-same-length : tie.Need-same-length Inv-loop μ-loop
+same-length : tie.Need-same-length
 same-length c = search needs
 
-returns : tie.Need-returns Inv-loop μ-loop
-returns c = side-end _ _ _ (c .before .loop .inv) (c .loop-test .left)
+returns : tie.Need-returns
+returns c =
+    let d = c .before .before in
+    let b = d .before in
+    sum-added _ _ _ _ (b .before .from-sum .ensures) (b .from-sum2 .ensures) (d .open-subsets .ensures)
 
 pub open-side-spec : {M : Type 1} → statement M
-open-side-spec =
-    tie.close
-    (tie.spec
-    Inv-loop
-    μ-loop
-    sub-top
-    cast-top
-    shl-top
-    loop-holds
-    mul-x
-    array-read-x
-    is-wanted-requires
-    wide-requires
-    open-starts-requires
-    add-s
-    loop-less
-    loop-again
-    same-length
-    returns)
+open-side-spec = tie.close (tie.spec from-sum-requires add-from-sum from-sum-requires-2 open-subsets-requires same-length returns)
