@@ -12,10 +12,6 @@ ghost use mathlib.Core.Bool.{_&&_};
 ghost use Prim.Native.Nat.{_*_};
 ghost use lib.Dec.{eqb};
 ghost use lib.ListN.{length};
-ghost use Rattle.rules.specs.Grid.{Puzzle};
-ghost use Rattle.table.specs.Reading.{readOff};
-ghost use Rattle.slab.specs.Slab.{tableIn};
-ghost use Rattle.slab.specs.Ready.{Ready};
 ghost use Rattle.state.specs.State.{Propagable};
 ghost use Rattle.backtrack.specs.Search.{Advanced, Searchable, Searched, Settling, SettledAs};
 

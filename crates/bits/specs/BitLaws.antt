@@ -124,9 +124,6 @@ ones-one (suc w) x h e =
 under-zero : (d t : ℕ) → d ≡ 0 → under d t ≡ suc t
 under-zero d t e = ap (λ (x : ℕ). under x t) e
 
-under-one : (d t : ℕ) → d ≡ 1 → under d t ≡ 0
-under-one d t e = ap (λ (x : ℕ). under x t) e
-
 pub trailing-pow : (w k : ℕ) → k < w → trailingZeros w (2 ^ k) ≡ k
 unfolding trailingZeros
 trailing-pow zero k h = absurd (omega arith)

@@ -6,13 +6,12 @@ use mathlib.Core.List.{List}
 use native.Mathlib.Omega.{arith}
 use lib.ListN.{length}
 use Rattle.checks.specs.CheckLaws.{refusal-skip, refusal-stop, refusal-none-left, refusal-none-right}
-use Rattle.checks.specs.SizeLaws.{Size, size-in}
 use Rattle.rules.specs.Grid.{Puzzle}
 use Rattle.rules.specs.Check.{refusal, puzzleChecks, markChecks, countChecks}
 use Rattle.rules.specs.Number.{number, capped}
 use Rattle.table.specs.Table.{left}
 use Rattle.puzzle.specs.Given.{puzzle}
-use Rattle.puzzle.specs.PuzzleLaws.{puzzle-numbered, accepted}
+use Rattle.puzzle.specs.PuzzleLaws.{puzzle-numbered, accepted-size}
 use Rattle.soundness.specs.SameGrids.{same-left, same-ext}
 use Rattle.soundness.specs.Marks.{marks-number}
 use Rattle.soundness.specs.Marks as marks
@@ -34,9 +33,6 @@ module _ (p : Puzzle) (ms : List ℕ) (k : ℕ) (d : k ≡ refusal (puzzleChecks
   pub refused-marks : k ≡ 0 → refusal (markChecks (p .size) ms) ≡ refusal (countChecks p ms)
   unfolding countChecks
   refused-marks z = sym (refusal-skip (puzzleChecks p) (markChecks (p .size) ms) (puzzle-numbered p) (sym d ∙ z))
-
-pub refused-size : (n : ℕ) (rows columns : List ℕ) (k : ℕ) → k ≡ refusal (puzzleChecks (puzzle n rows columns)) → k ≡ 0 → Size n
-refused-size n rows columns k d z = size-in n (accepted (puzzle n rows columns) (sym d ∙ z) .size-fits)
 
 pub answer-refused : (d k c : ℕ) → k ≡ d → (k ≡ 0 → ⊥) → Refused k ≡ counted d c
 answer-refused zero k c e z = absurd (z e)
@@ -61,7 +57,7 @@ module _ {p : Puzzle} {ms : List ℕ} (a : CountAsk p ms) where
   count-prepare w b = record { puzzle = count-puzzle; marks = count-marks; room = w; blank = b }
 
   small : p .size ≤ 9
-  small = size-in (p .size) (accepted p count-puzzle .size-fits) .high
+  small = accepted-size p count-puzzle .high
 
   pub count-none : {ws l : List ℕ} {ok : Bool} (cap : ℕ) → Prepared p ms ws l ok → ok ≡ false → 0 ≡ capped cap p ms
   unfolding capped

@@ -10,13 +10,13 @@ use lib.ListN.{length}
 use borrow.Author.Tests.{eq-eqb, ne-eqb, eqb-true}
 use Rattle.tally.specs.Tally.{join}
 use Rattle.checks.specs.CheckLaws.{numbered, refusal-skip, refusal-stop, refusal-none, refusal-none-left, refusal-none-right, numbered-append}
-use Rattle.checks.specs.SizeLaws.{Size, size-in}
+use Rattle.checks.specs.SizeLaws.{Size}
 use Rattle.rules.specs.Grid.{Puzzle}
 use Rattle.rules.specs.Check.{checkBuffer, refusal, checkMark, puzzleChecks, markChecks, countChecks, solveChecks}
 use Rattle.rules.specs.Number.{number, capped, verdictOf}
 use Rattle.number.specs.VerdictLaws.{verdict-capped}
 use Rattle.puzzle.specs.Given.{puzzle}
-use Rattle.puzzle.specs.PuzzleLaws.{puzzle-numbered, accepted}
+use Rattle.puzzle.specs.PuzzleLaws.{puzzle-numbered, accepted-size}
 use Rattle.marks.specs.MarkLaws.{mark-numbered}
 use Rattle.soundness.specs.SameGrids.{Within}
 use Rattle.soundness.specs.Marks.{within-solution}
@@ -61,7 +61,7 @@ module _ (p : Puzzle) (ms : List ℕ) (len k : ℕ) (d : k ≡ refusal (countChe
 pub refused-small : (n : ℕ) (rows columns ms : List ℕ) (k : ℕ) → k ≡ refusal (countChecks (puzzle n rows columns) ms) → k ≡ 0 → Size n
 unfolding countChecks
 refused-small n rows columns ms k d z =
-    size-in n (accepted (puzzle n rows columns) (refusal-none-left (puzzleChecks (puzzle n rows columns)) (markChecks n ms) (sym d ∙ z)) .size-fits)
+    accepted-size (puzzle n rows columns) (refusal-none-left (puzzleChecks (puzzle n rows columns)) (markChecks n ms) (sym d ∙ z))
 
 -- ---- the answers
 
@@ -93,7 +93,7 @@ module _ {p : Puzzle} {ms : List ℕ} {len : ℕ} (a : SolveAsk p ms len) where
       (numbered-append (puzzleChecks p) (markChecks (p .size) ms) (puzzle-numbered p) (marks-numbered (p .size) ms)) (a .accepted)) .0)
 
   pub solve-size : Size (p .size)
-  solve-size = size-in (p .size) (accepted p (count-puzzle solve-count) .size-fits)
+  solve-size = accepted-size p (count-puzzle solve-count)
 
   small : p .size ≤ 9
   small = solve-size .high

@@ -8,7 +8,7 @@ use native.Mathlib.Nat.{mod-lt, div-add-mod', div-lt-iff-lt-mul}
 use lib.ListN.{length, getD}
 use lib.Seq.{ext-getD}
 use Rattle.tally.specs.Tally.{all, span}
-use Rattle.tally.specs.TallyLaws.{and-left, and-right, and-both, span-in, span-mem, Way}
+use Rattle.tally.specs.TallyLaws.{and-left, and-right, and-both, span-in, span-mem, map-at, Way}
 use Rattle.tally.specs.WayLaws.{all-each, way-length}
 use Rattle.rules.specs.Line.{lawful, lineSum, meets, keepsLine}
 use Rattle.rules.specs.Grid.{Puzzle, Line, across, down, index, line, lines, target, cell, row, column, keeps}
@@ -16,7 +16,7 @@ use Rattle.rules.specs.GridLaws.{line-in, all-lines, line-keeps, line-way}
 use Rattle.rules.specs.Mark.{leftBlack}
 use Rattle.rules.specs.Number.{symbols}
 use Rattle.table.specs.Table.{Table, Places, places, firstBlack, half, own, fits}
-use Rattle.line_laws.specs.Lists.{all-in, map-at}
+use Rattle.line_laws.specs.Lists.{all-in}
 use Rattle.line_laws.specs.Parts.{LawfulLine}
 use Rattle.line_laws.specs.Values.{own-half, own-cell}
 

@@ -160,12 +160,6 @@ pub span-is-once : (a k : ℕ) → Once (span a k)
 unfolding Once
 span-is-once a k c m = let r = span-in a k c m in span-once a k c (r .0) (r .1)
 
-pub map-at : (f : ℕ → ℕ) (a k i : ℕ) → i < k → getD (map f (span a k)) i 0 ≡ f (a + i)
-unfolding span
-map-at f a zero i h = absurd (omega arith)
-map-at f a (suc k) zero h = ap f (omega arith)
-map-at f a (suc k) (suc i) h = map-at f (suc a) k i (omega arith) ∙ ap f (omega arith)
-
 pub map-on : {f g : ℕ → ℕ} (xs : List ℕ) → ((x : ℕ) → List·Memᴰ x xs → f x ≡ g x) → map f xs ≡ map g xs
 map-on [] h = refl
 map-on (x ∷ xs) h = ap₂ _∷_ (h x (List·Memᴰ·head refl)) (map-on xs (λ y m. h y (List·Memᴰ·tail m)))

@@ -9,14 +9,14 @@ use lib.Dec.{eqb, ltb}
 use lib.ListN.{length, getD, take, length-map}
 use borrow.Author.Tests.{eqb-true, eq-eqb, ne-eqb, lt-ltb, le-ltb}
 use Rattle.tally.specs.Tally.{bit, count, span}
-use Rattle.tally.specs.TallyLaws.{and-both, count-map, bit-eq, bit-ne, span-in, span-length, Way}
+use Rattle.tally.specs.TallyLaws.{and-both, count-map, bit-eq, bit-ne, span-in, span-length, map-at, Way}
 use Rattle.tally.specs.WayLaws.{way-map}
 use Rattle.rules.specs.Line.{black, isBlack, digits, lawful, keepsLine}
 use Rattle.rules.specs.Number.{symbols}
 use Rattle.rules.specs.Arrangement.{Arrangement}
 use Rattle.table.specs.Table.{Places, half, own}
 use Rattle.table.specs.Closed.{place, allows, Supported, ClosedLine}
-use Rattle.line_laws.specs.Lists.{all-in, count-on, count-add, count-most, span-is-once, map-at}
+use Rattle.line_laws.specs.Lists.{all-in, count-on, count-add, count-most, span-is-once}
 use Rattle.line_laws.specs.Pigeonhole.{pigeonhole}
 use Rattle.line_laws.specs.Half.{digit-range, HalfValue, a-digit, a-first, a-second, half-value, digit-in, first-in, second-in, half-once, half-length}
 use Rattle.line_laws.specs.Own.{black-before, black-between}

@@ -13,7 +13,6 @@ use Rattle.rules.specs.Check.{Check, refusal, checkLine, checkBuffer, sizeFits,
 use Rattle.rules.specs.Marking.{sheetRight}
 use Rattle.checks.specs.CheckLaws.{refusal-skip, refusal-stop, refusal-none, refusal-none-left, refusal-none-right}
 use Rattle.checks.specs.Strided.{strided, each, checks-each, all-each-line}
-use Rattle.checks.specs.SizeLaws.{Size, size-in}
 use Rattle.puzzle.specs.Given.{puzzle}
 use Rattle.puzzle.specs.PuzzleLaws.{puzzle-numbered, accepted}
 use Rattle.grid.specs.SumsLaws.{rows-numbered}
@@ -25,9 +24,6 @@ abbrev pub meetsAt : ℕ → ℕ → List ℕ → ℕ → List ℕ → ℕ → B
 meetsAt step stride g n ts i = meets (getD ts i 0) (lineSum (strided (i * step) stride g n))
 
 -- ---- the checks
-
-pub sheet-size : (n : ℕ) (rows columns : List ℕ) (k : ℕ) → k ≡ refusal (puzzleChecks (puzzle n rows columns)) → k ≡ 0 → Size n
-sheet-size n rows columns k d z = size-in n (accepted (puzzle n rows columns) (sym d ∙ z) .size-fits)
 
 module _ (p : Puzzle) (g : List ℕ) (k : ℕ) (d : k ≡ refusal (puzzleChecks p)) where
   pub sheet-puzzle : (k ≡ 0 → ⊥) → k ≡ refusal (sheetChecks p g)

@@ -1,6 +1,7 @@
 -- The checks of a puzzle, one after the other, and what a puzzle that passes them all is. Assumes nothing.
 use Prim.Native.Nat.{ℕ}
-use mathlib.Core.Path.{_≡_, refl}
+use mathlib.Core.Path.{_≡_, refl, sym, _∙_}
+use mathlib.Core.List.{List}
 use mathlib.Core.Bool.{Bool, true, false}
 use lib.Dec.{eqb, leb}
 use lib.ListN.{length}
@@ -10,6 +11,8 @@ use Rattle.tally.specs.TallyLaws.{and-left, and-right}
 use Rattle.rules.specs.Grid.{Puzzle}
 use Rattle.rules.specs.Check.{refusal, maxTarget, sizeFits, targetsFit, puzzleChecks}
 use Rattle.checks.specs.CheckLaws.{numbered, refusal-none}
+use Rattle.checks.specs.SizeLaws.{Size, size-in}
+use Rattle.puzzle.specs.Given.{puzzle}
 
 module _ (p : Puzzle) where
   abbrev fitting : Bool
@@ -64,3 +67,11 @@ accepted p e =
       rows-within = and-left _ _ (d .0);
       columns-within = and-right (all (λ t. leb t (maxTarget n)) (p .rows)) _ (d .0);
     }
+
+-- it has a size from 2 to 9
+pub accepted-size : (p : Puzzle) → refusal (puzzleChecks p) ≡ 0 → Size (p .size)
+accepted-size p e = size-in (p .size) (accepted p e .size-fits)
+
+-- the same of the number that a call found
+pub passed-size : (n : ℕ) (rows columns : List ℕ) (k : ℕ) → k ≡ refusal (puzzleChecks (puzzle n rows columns)) → k ≡ 0 → Size n
+passed-size n rows columns k d z = accepted-size (puzzle n rows columns) (sym d ∙ z)

@@ -7,7 +7,7 @@ use mathlib.Core.List.{List, [], _∷_, map, List·Memᴰ, List·Memᴰ·head, L
 use native.Mathlib.Omega.{arith}
 use native.Mathlib.Nat.{add-zero, mul-add-div-right, mul-add-mod-self-right, div-eq-of-lt, mod-eq-of-lt}
 use Rattle.tally.specs.Tally.{bit, count, span}
-use Rattle.tally.specs.TallyLaws.{span-in, span-length, Way, Once}
+use Rattle.tally.specs.TallyLaws.{span-in, span-length, map-at, Way, Once}
 use Rattle.tally.specs.WayLaws.{way-map}
 use Rattle.rules.specs.Line.{black, digits}
 use Rattle.rules.specs.Grid.{Line, index, line, cell}
@@ -15,7 +15,7 @@ use Rattle.rules.specs.GridLaws.{place-lt}
 use Rattle.rules.specs.Number.{symbols}
 use Rattle.table.specs.Table.{Table, places, half}
 use Rattle.table.specs.Reading.{first, choices, readCell, readOff}
-use Rattle.line_laws.specs.Lists.{count-pos, count-sole, once-same, map-at, map-on}
+use Rattle.line_laws.specs.Lists.{count-pos, count-sole, once-same, map-on}
 use Rattle.line_laws.specs.Half.{digit-range, HalfValue, a-digit, a-first, a-second, half-value, digit-in, half-once}
 use Rattle.line_laws.specs.SettledLine.{Settled, cellOf, cell-digit, cell-black}
 use Rattle.line_laws.specs.GridLines.{rowOf, columnOf, place-in, line-map, places-cell}

@@ -1,7 +1,7 @@
 // The state of the queue solver in one slice of 5,599 numbers, and its primitives (in the Rust: QueueSolverState and clear_mask).
 // A cell has the place row * 9 + column, a line the number row or 9 + column, at every size.
 ghost use mathlib.Core.Path.{_≡_};
-ghost use Prim.Native.Nat.{_-_, _≤_, _<_};
+ghost use Prim.Native.Nat.{_-_, _<_};
 ghost use lib.ListN.{getD, set};
 ghost use Rattle.slab.specs.Slab.{Sized, Struck, One, Masked, Strikable, Countable};
 

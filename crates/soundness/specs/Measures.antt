@@ -9,7 +9,7 @@ use native.Mathlib.Decide.{ℕ-discrete}
 use lib.Dec.{eqb, ltb}
 use borrow.Author.Tests.{eq-eqb, ltb-true, lt-ltb, le-ltb}
 use Rattle.tally.specs.Tally.{bit, sum, count, span}
-use Rattle.tally.specs.TallyLaws.{Once, sum-bits, span-in, span-mem, span-length}
+use Rattle.tally.specs.TallyLaws.{Once, bit-le, sum-bits, span-in, span-mem, span-length}
 use Rattle.rules.specs.GridLaws.{place-lt}
 use Rattle.rules.specs.Grid.{across}
 use Rattle.rules.specs.Mark.{leftBlack}
@@ -34,10 +34,6 @@ unfolding sum
 sum-less f g (List·Memᴰ·head {x = x} {xs = xs} e) h l =
     let k : f x < g x = rw e at l in omega (arith, sum-le f g xs (λ z m. h z (List·Memᴰ·tail m)))
 sum-less f g (List·Memᴰ·tail {x = x} {xs = xs} k) h l = omega (arith, h x (List·Memᴰ·head refl), sum-less f g k (λ z m. h z (List·Memᴰ·tail m)) l)
-
-bit-le : (a b : Bool) → (a ≡ true → b ≡ true) → bit a ≤ bit b
-bit-le true b h = rw (h refl) (omega arith)
-bit-le false b h = omega arith
 
 count-le : (p q : ℕ → Bool) (xs : List ℕ) → ((x : ℕ) → List·Memᴰ x xs → p x ≡ true → q x ≡ true) → count p xs ≤ count q xs
 count-le p q xs h = omega (arith, sum-bits p xs, sum-bits q xs, sum-le (λ x. bit (p x)) (λ x. bit (q x)) xs (λ x m. bit-le (p x) (q x) (h x m)))

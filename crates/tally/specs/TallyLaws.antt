@@ -8,7 +8,7 @@ use mathlib.Core.Logic.{⊎-elim}
 use native.Mathlib.Omega.{arith}
 use native.Mathlib.Decide.{ℕ-discrete}
 use lib.Dec.{eqb}
-use lib.ListN.{length}
+use lib.ListN.{length, getD}
 use borrow.Author.Tests.{eqb-true, eq-eqb, ne-eqb}
 use Rattle.tally.specs.Tally.{bit, sum, all, count, inFront, ways, span}
 
@@ -44,7 +44,7 @@ bit-split true true = refl
 bit-split true false = refl
 bit-split false b = refl
 
-bit-le : (a b : Bool) → (a ≡ true → b ≡ true) → bit a ≤ bit b
+pub bit-le : (a b : Bool) → (a ≡ true → b ≡ true) → bit a ≤ bit b
 bit-le true b h = rw (h refl) (le-refl 1)
 bit-le false b h = zero-le
 
@@ -217,3 +217,9 @@ pub span-length : (a k : ℕ) → length (span a k) ≡ k
 unfolding span
 span-length a zero = refl
 span-length a (suc k) = ap suc (span-length (suc a) k)
+
+pub map-at : (f : ℕ → ℕ) (a k i : ℕ) → i < k → getD (map f (span a k)) i 0 ≡ f (a + i)
+unfolding span
+map-at f a zero i h = absurd (omega arith)
+map-at f a (suc k) zero h = ap f (omega arith)
+map-at f a (suc k) (suc i) h = map-at f (suc a) k i (omega arith) ∙ ap f (omega arith)

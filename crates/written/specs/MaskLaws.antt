@@ -1,19 +1,19 @@
 -- The masks that are written stand for the table. Assumes nothing.
-use Prim.Native.Nat.{ℕ, zero, suc, _+_, _-_, _*_, _/_, _%_, _^_, _≤_, _<_}
+use Prim.Native.Nat.{ℕ, suc, _+_, _-_, _*_, _/_, _%_, _^_, _≤_, _<_}
 use mathlib.Core.Path.{_≡_, sym, ap, _∙_}
 use mathlib.Core.Bool.{true}
 use mathlib.Core.Logic.{inl, inr, ⊎-elim}
-use mathlib.Core.List.{List, [], _∷_, _++_, map, List·Memᴰ, List·Memᴰ·head, List·Memᴰ·tail, List·Memᴰ·append-cases, List·Memᴰ·not-nil}
+use mathlib.Core.List.{List, [], _∷_, _++_, List·Memᴰ, List·Memᴰ·head, List·Memᴰ·tail, List·Memᴰ·append-cases, List·Memᴰ·not-nil}
 use native.Mathlib.Omega.{arith}
 use native.Mathlib.Decide.{decLt}
-use native.Mathlib.Nat.{mul-le-mul, mod-eq-of-lt, mod-lt, add-comm, add-zero}
+use native.Mathlib.Nat.{mul-le-mul, mod-eq-of-lt, mod-lt, add-comm}
 use lib.Arith.{digits-div, digits-mod}
 use lib.Dec.{eqb}
 use lib.ListN.{getD}
 use lib.Pow.{pow-pos, pow-mono, shr-shr, shr-lt, split, high, low, field, mod-mod-pow}
 use borrow.Author.Tests.{lt-ltb, le-ltb, eqb-true}
 use Rattle.tally.specs.Tally.{span}
-use Rattle.tally.specs.TallyLaws.{span-in}
+use Rattle.tally.specs.TallyLaws.{span-in, map-at}
 use Rattle.rules.specs.Line.{digits}
 use Rattle.rules.specs.Grid.{cell}
 use Rattle.rules.specs.GridLaws.{place-lt}
@@ -113,12 +113,6 @@ every-value n v s m =
     two k (List·Memᴰ·tail (List·Memᴰ·head e)) = omega arith
     two k (List·Memᴰ·tail (List·Memᴰ·tail m)) = absurd (List·Memᴰ·not-nil m)
 
-getD-span : (f : ℕ → ℕ) (a k i : ℕ) → i < k → getD (map f (span a k)) i 0 ≡ f (a + i)
-unfolding span
-getD-span f a zero i h = absurd (omega arith)
-getD-span f a (suc k) zero h = rw add-zero
-getD-span f a (suc k) (suc i) h = let e : suc a + i ≡ a + suc i = omega arith in rw (← e) (getD-span f (suc a) k i (omega arith))
-
 module _ {n : ℕ} {l : List ℕ} (s : Ready n l) (r c : ℕ) (row : r < n) (column : c < n) where
   place : r * 9 + c < 81
   place = omega (arith, s .size .high)
@@ -132,7 +126,7 @@ module _ {n : ℕ} {l : List ℕ} (s : Ready n l) (r c : ℕ) (row : r < n) (col
   unfolding cell published
   written-mask =
       let z : 0 + (r * n + c) ≡ r * n + c = omega arith in
-      getD-span (λ i. mask n (getD l (i / n * 9 + i % n) 0)) 0 (n * n) (r * n + c) (place-lt n r c row column)
+      map-at (λ i. mask n (getD l (i / n * 9 + i % n) 0)) 0 (n * n) (r * n + c) (place-lt n r c row column)
       ∙ rw (z, digits-div r column, digits-mod r column)
 
   -- The masks that are written stand for the state's table.

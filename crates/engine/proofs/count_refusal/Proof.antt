@@ -1,5 +1,6 @@
 -- `engine::count_refusal` meets its contract. Assumes nothing.
-use Rattle.engine.specs.CountLaws.{refused-puzzle, refused-marks, refused-size}
+use Rattle.engine.specs.CountLaws.{refused-puzzle, refused-marks}
+use Rattle.puzzle.specs.PuzzleLaws.{passed-size}
 use mathlib.Core.Path.{_∙_}
 use borrow.Author.Needs.{needs}
 use Rattle.engine.proofs.count_refusal.Statement.{statement}
@@ -12,7 +13,7 @@ returns : tie.Need-returns
 returns c = refused-puzzle _ _ _ (c .before .puzzle-refusal .ensures) (c .if1 .taken)
 
 marks-refusal-requires : tie.Need-marks-refusal-requires
-marks-refusal-requires c κs = search (needs, refused-size)
+marks-refusal-requires c κs = search (needs, passed-size)
 
 returns-2 : tie.Need-returns-2
 returns-2 c = c .marks-refusal .ensures ∙ refused-marks _ _ _ (c .before .before .puzzle-refusal .ensures) (c .before .if1 .left)

@@ -1,6 +1,5 @@
 -- `engine::verdict` meets its contract. Assumes nothing.
 use Rattle.engine.specs.SolveLaws.{verdict-0, verdict-1, verdict-2}
-use borrow.Author.Needs.{needs}
 use Rattle.engine.proofs.verdict.Statement.{statement}
 use Rattle.engine.proofs.verdict.Tie as tie
 

@@ -1,8 +1,7 @@
 -- `grid::add_cell` meets its contract. Assumes nothing.
-use mathlib.Core.Path.{_≡_, refl}
+use mathlib.Core.Path.{refl}
 use native.Mathlib.Omega.{arith}
 use borrow.Author.Needs.{needs}
-use Rattle.tally.specs.TallyLaws.{bit-eq, bit-ne}
 use Rattle.grid.specs.ScanLaws.{next-black, next-off, next-empty, next-number}
 use Rattle.grid.proofs.add_cell.Statement.{statement}
 use Rattle.grid.proofs.add_cell.Tie as tie

@@ -1,6 +1,6 @@
 -- `grid::lines_refusal` meets its contract: the refusal is that of the lines from i on. Assumes nothing.
 use Prim.Native.Nat.{_≤_, _-_}
-use mathlib.Core.Path.{_≡_, refl, sym, _∙_}
+use mathlib.Core.Path.{_≡_, sym, _∙_}
 use native.Mathlib.Omega.{arith}
 use Rattle.rules.specs.Check.{refusal}
 use Rattle.checks.specs.Strided.{each}

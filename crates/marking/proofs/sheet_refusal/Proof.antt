@@ -2,7 +2,8 @@
 use native.Mathlib.Omega.{arith}
 use borrow.Author.Needs.{needs}
 use Rattle.checks.specs.SizeLaws.{Size}
-use Rattle.marking.specs.MarkingLaws.{sheet-puzzle, sheet-size, sheet-7, sheet-0}
+use Rattle.marking.specs.MarkingLaws.{sheet-puzzle, sheet-7, sheet-0}
+use Rattle.puzzle.specs.PuzzleLaws.{passed-size}
 use Rattle.marking.proofs.sheet_refusal.Statement.{statement}
 use Rattle.marking.proofs.sheet_refusal.Tie as tie
 
@@ -14,7 +15,7 @@ returns c = search (needs, sheet-puzzle)
 
 mul-if2 : tie.Need-mul-if2
 mul-if2 c =
-    let s : Size (c .before .before .before .before .before .args .n) = search (needs, sheet-size) in omega arith
+    let s : Size (c .before .before .before .before .before .args .n) = search (needs, passed-size) in omega arith
 
 returns-2 : tie.Need-returns-2
 returns-2 c = search (needs, sheet-7)

@@ -1,6 +1,5 @@
 -- `puzzle::size_fits` meets its contract. Assumes nothing.
 use borrow.Author.Tests.{le-leb, lt-leb}
-use borrow.Author.Needs.{needs}
 use Rattle.puzzle.proofs.size_fits.Statement.{statement}
 use Rattle.puzzle.proofs.size_fits.Tie as tie
 

@@ -1,6 +1,5 @@
 -- `puzzle::targets_fit` meets its contract. Assumes nothing.
 use borrow.Author.Tests.{eq-eqb, ne-eqb}
-use borrow.Author.Needs.{needs}
 use Rattle.puzzle.proofs.targets_fit.Statement.{statement}
 use Rattle.puzzle.proofs.targets_fit.Tie as tie
 
