@@ -28,7 +28,7 @@ fn drawn(size: usize) -> Vec<Record> {
     let mut rng = SeededRng::new(1000 + size as u64);
     of_each_kind(&mut rng, DRAWS, OF_EACH_KIND, |rng| {
         let cells = any_cells(rng, size);
-        Some((answer(size, &cells), record(size, &cells, size, size)))
+        Some(answered(size, &cells))
     })
 }
 
@@ -46,15 +46,17 @@ fn any_cells(rng: &mut SeededRng, size: usize) -> Vec<u8> {
     }
 }
 
-/// 0 or the number of the refusal, by the Rust where it agrees with the rules.
-fn answer(size: usize, cells: &[u8]) -> u8 {
+/// The answer's number and the record of cells that both sides take, where the Rust
+/// agrees with the rules.
+fn answered(size: usize, cells: &[u8]) -> (u8, Record) {
     let rust = reference::target_sums(size, cells);
     let rules = rules::target_sums(size, cells, size, size);
-    match (rust, rules) {
+    let number = match (rust, rules) {
         (Err(10), Err(9)) => 9,
         (rust, rules) if rust == rules => rust.err().unwrap_or(0),
         (rust, rules) => panic!("Rust {rust:?}, rules {rules:?}: run compare"),
-    }
+    };
+    (number, record(size, cells, size, size))
 }
 
 /// First rows that are worth a record of their own, over rows without a fault.
@@ -77,7 +79,7 @@ fn named() -> Vec<Record> {
             for row in 1..5 {
                 cells.extend((0..5).map(|c| if c == row || c == row - 1 { B } else { 1 }));
             }
-            record(5, &cells, 5, 5)
+            answered(5, &cells).1
         })
         .collect()
 }
