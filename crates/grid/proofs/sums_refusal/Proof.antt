@@ -25,6 +25,7 @@ targets-fit-requires c κs = search needs
 returns-3 : tie.Need-returns-3
 returns-3 c = search (needs, sums-2, said-yes, said-no)
 
+-- Rows and columns are both listed at each call, so that a call on the wrong lines is refused for its answer.
 lines-refusal-requires : tie.Need-lines-refusal-requires
 lines-refusal-requires c κs = search (needs, rows-within, columns-within, said-yes)
 

@@ -5,6 +5,7 @@ use borrow.Author.Needs.{needs}
 use Rattle.marking.proofs.sheet_right.Statement.{statement}
 use Rattle.marking.proofs.sheet_right.Tie as tie
 
+-- Rows and columns are both listed at each call, so that a call on the wrong lines is refused for its answer.
 lines-refusal-requires : tie.Need-lines-refusal-requires
 lines-refusal-requires c κs = search (needs, rows-within, columns-within)
 
