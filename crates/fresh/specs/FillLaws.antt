@@ -8,7 +8,8 @@ use native.Mathlib.Decide.{ℕ-discrete, decLt}
 use lib.ListN.{length, getD, set, replicate, length-set, length-replicate}
 use lib.Seq.{getD-set-same, getD-set-other}
 use borrow.Author.Tests.{lt-ltb, le-ltb}
-use Rattle.value.specs.Mask.{maskOf, everyValue}
+use Rattle.table.specs.Table.{everyValue}
+use Rattle.value.specs.Mask.{maskOf}
 use Rattle.fresh.specs.Fresh.{Filled, Blank, cellIn, RowsFull, Fresh}
 
 pub fill-start : (l : List ℕ) (from k : ℕ) → Filled l l from from k

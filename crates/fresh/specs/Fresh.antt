@@ -6,7 +6,8 @@ use mathlib.Core.Bool.{_&&_, cond}
 use mathlib.Core.List.{List}
 use lib.Dec.{ltb}
 use lib.ListN.{length, getD}
-use Rattle.value.specs.Mask.{maskOf, everyValue}
+use Rattle.table.specs.Table.{everyValue}
+use Rattle.value.specs.Mask.{maskOf}
 
 -- The places from .. to have the number k, and the others are as before.
 pub record Filled (l l′ : List ℕ) (from to k : ℕ) : Type 0 where

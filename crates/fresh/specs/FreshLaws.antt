@@ -13,9 +13,9 @@ use Rattle.tally.specs.Tally as tally
 use Rattle.tally.specs.TallyLaws.{span-mem, and-left, and-right}
 use Rattle.tally.specs.WayLaws.{all-each}
 use Rattle.rules.specs.Line.{digits}
-use Rattle.checks.specs.SizeLaws.{Size}
-use Rattle.value.specs.Mask.{maskOf, everyValue}
-use Rattle.value.specs.MaskLaws.{at-size}
+use Rattle.checks.specs.SizeLaws.{Size, at-size}
+use Rattle.table.specs.Table.{half, everyValue}
+use Rattle.value.specs.Mask.{maskOf}
 use Rattle.bits.specs.Bit.{bit}
 use Rattle.bits.specs.Sum.{sum}
 use Rattle.bits.specs.SumLaws.{sum-same}
@@ -35,7 +35,7 @@ room-test : ℕ → Bool
 room-test n = leb (sum 0 1296 (λ (k : ℕ). fullCand n (k / 16) (k % 16))) 891
 
 room-right : all room-test (span 2 8) ≡ true
-unfolding room-test fullCand cellIn maskOf digits span all sum bit tally.sum
+unfolding room-test fullCand cellIn maskOf everyValue half digits span all sum bit tally.sum
 room-right = refl
 
 -- which bits a full cell has
@@ -46,7 +46,7 @@ bits-test : ℕ → Bool
 bits-test n = all (λ v. eqb (bit v (maskOf (everyValue n))) (cond (named n v) 1 0)) (span 0 16)
 
 bits-right : all bits-test (span 2 8) ≡ true
-unfolding bits-test named maskOf digits span all bit tally.sum
+unfolding bits-test named maskOf everyValue half digits span all bit tally.sum
 bits-right = refl
 
 pub full-bit : (n v : ℕ) → Size n → v < 16 → bit v (maskOf (everyValue n)) ≡ cond (named n v) 1 0

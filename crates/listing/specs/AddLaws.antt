@@ -6,16 +6,15 @@ use mathlib.Core.List.{List, [], _∷_, _++_, map, append-assoc, append-nil, map
 use native.Mathlib.Omega.{arith}
 use lib.Dec.{ltb, leb}
 use lib.ListN.{length, getD, set, length-set, length-append, length-map}
-use borrow.Author.Tests.{leb-true, lt-ltb, le-ltb}
+use borrow.Author.Tests.{lt-ltb, le-ltb}
 use lib.Seq.{getD-set-same, getD-set-other}
-use Rattle.tally.specs.Tally.{span, all, keep, join}
+use Rattle.tally.specs.Tally.{span, keep, join}
 use Rattle.tally.specs.Tally as tally
-use Rattle.tally.specs.TallyLaws.{span-length, span-mem}
-use Rattle.tally.specs.WayLaws.{all-each}
+use Rattle.tally.specs.TallyLaws.{span-length}
 use Rattle.checks.specs.Strided.{map-next}
-use Rattle.bits.specs.BitLaws.{shl-one}
-use Rattle.words.specs.Word.{maskIn, sizeIn, sumTable, fromSum, Known, wordOf, part}
-use Rattle.words.specs.WordFacts.{subset-fits}
+use Rattle.words.specs.Word.{maskIn, sizeIn, fromSum, Known, wordOf, part}
+use Rattle.words.specs.WordFacts.{subset-fits, from-sum-most}
+use Rattle.words.specs.FillLaws.{top-is}
 use Rattle.words.specs.PatternLaws.{part-lt}
 use Rattle.words.specs.WordLaws.{known-shaped}
 use Rattle.arcs.specs.Arc.{blackAt, lives, live, support}
@@ -246,9 +245,8 @@ module _ {n ℓ k : ℕ} {ws l₀ l whole : List ℕ} (outside : Bool) (s len a 
 
 -- the subsets of one side
 module _ {n ℓ k : ℕ} {ws l₀ l whole : List ℕ} (outside : Bool) (s m : ℕ) (d : Adding n ℓ k ws l₀ l (sideFrom n outside s m) whole) (h : s < m) where
-  -- `1 << n - 1` of 16 bits
   top : 1 * 2 ^ (n - 1) % 65536 ≡ 2 ^ (n - 1)
-  top = shl-one (n - 1) (omega (arith, d .ask .size .high))
+  top = top-is n (d .ask .size)
 
   fits : maskIn s < 1 * 2 ^ (n - 1) % 65536 → ofSize n s ≡ true
   unfolding ofSize
@@ -277,17 +275,11 @@ unfolding sideFrom
 side-end outside s m d h = scan-done _ _ s m d h
 
 -- those of one sum
-sum-tests : all (λ k. leb (fromSum k) 128) (span 0 30) ≡ true
-unfolding fromSum sumTable span all
-sum-tests = refl
-
 module _ {n ℓ : ℕ} {l : List ℕ} (outside : Bool) (want from to : ℕ) (e : from ≡ fromSum want) (f : to ≡ fromSum (want + 1)) where
   pub sum-ask : {k : ℕ} {ws : List ℕ} → Addable n ℓ k ws l (sideOf n outside want) × (want < 29) →
       Addable n ℓ k ws l (sideFrom n outside from to) × (to ≤ 128)
   unfolding sideOf
-  sum-ask a =
-      let t = all-each (λ k. leb (fromSum k) 128) (span-mem 0 30 (want + 1) (omega arith) (omega (arith, a .1))) sum-tests in
-      rw (e, f) (a .0, leb-true (fromSum (want + 1)) 128 t)
+  sum-ask a = rw (e, f) (a .0, from-sum-most (want + 1) (omega (arith, a .1)))
 
   pub sum-added : {l′ : List ℕ} → Added n ℓ l l′ (sideFrom n outside from to) → Added n ℓ l l′ (sideOf n outside want)
   unfolding sideOf

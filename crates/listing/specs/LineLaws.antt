@@ -7,11 +7,8 @@ use mathlib.Core.List.{List, _++_, map, map-map}
 use native.Mathlib.Omega.{arith}
 use native.Mathlib.Decide.{ℕ-discrete}
 use lib.ListN.{getD}
-use lib.Dec.{leb}
-use borrow.Author.Tests.{lt-ltb, le-ltb, leb-true}
-use Rattle.tally.specs.Tally.{span, all}
-use Rattle.tally.specs.TallyLaws.{span-mem}
-use Rattle.tally.specs.WayLaws.{all-each}
+use borrow.Author.Tests.{lt-ltb, le-ltb}
+use Rattle.tally.specs.Tally.{span}
 use Rattle.tally.specs.Tally as tally
 use Rattle.bits.specs.Sum.{sum}
 use Rattle.bits.specs.SumLaws.{sum-zero, sum-first, sum-same}
@@ -21,23 +18,15 @@ use Rattle.words.specs.Word.{arrangementOf, wordOf, part}
 use Rattle.fresh.specs.Fresh.{Fresh}
 use Rattle.arcs.specs.Arc.{blackAt, LineOf, lives, live, support}
 use Rattle.listing.specs.Numbers.{sideOf, numbersFor}
-use Rattle.listing.specs.NumberFacts.{numbers-few, numbers-are, numbers-known}
+use Rattle.listing.specs.NumberFacts.{target-most, numbers-few, numbers-are, numbers-known}
 use Rattle.listing.specs.Listing.{listOf, Elsewhere, Added, Addable, Unlisted, Lists, LinesAsk, LinesTo, targetAt, OpenAsk, Arranged}
 use Rattle.listing.specs.AddLaws.{map-same, added-lives, added-both, addable-first, addable-after}
 
 -- ---- one line: the inside ones, then the outside ones
 
--- the greatest sum that is looked up
-most-sums : all (λ n. leb (maxTarget n) 28) (span 2 8) ≡ true
-unfolding maxTarget span all
-most-sums = refl
-
 module _ {n ℓ k : ℕ} {ws l : List ℕ} (t m : ℕ) (e : m ≡ maxTarget n) (a : Addable n ℓ k ws l (numbersFor n t)) where
   most : m ≤ 28
-  most =
-      let z = a .size in
-      let b = all-each (λ n. leb (maxTarget n) 28) (span-mem 2 8 n (z .low) (omega (arith, z .high))) most-sums in
-      omega (arith, e, leb-true (maxTarget n) 28 b)
+  most = omega (arith, e, target-most n (a .size))
 
   parts : numbersFor n t ≡ sideOf n false t ++ sideOf n true (m - t)
   unfolding numbersFor

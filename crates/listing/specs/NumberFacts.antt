@@ -14,7 +14,7 @@ use Rattle.rules.specs.Line.{digits, meets}
 use Rattle.rules.specs.Check.{maxTarget}
 use Rattle.rules.specs.Arrangement.{Arrangement, subsets, subsetsWith, fromStarts, insides, outsides, arrangements}
 use Rattle.bits.specs.Bit.{bit}
-use Rattle.checks.specs.SizeLaws.{Size}
+use Rattle.checks.specs.SizeLaws.{Size, at-size}
 use Rattle.words.specs.Word.{subsetTable, subset, sumTable, fromSum, maskIn, digitsOf, arrangementOf, Known}
 use Rattle.listing.specs.Numbers.{scan, onSide, startsFrom, ofSize, sideFrom, sideOf, numbersFor}
 
@@ -49,7 +49,15 @@ unfolding
     arrangements insides outsides fromStarts subsetsWith subsets digits meets maxTarget span all keep join sum bit
 list-tests = refl
 
--- ---- what the test says
+target-tests : all (λ n. leb (maxTarget n) 28) (span 2 8) ≡ true
+unfolding maxTarget span all
+target-tests = refl
+
+-- ---- what the tests say
+
+-- no sum is above 28
+pub target-most : (n : ℕ) → Size n → maxTarget n ≤ 28
+target-most n z = leb-true (maxTarget n) 28 (at-size (λ n. leb (maxTarget n) 28) target-tests n z)
 
 alike-eq : (a b : Bool) → alike a b ≡ true → a ≡ b
 unfolding alike
@@ -76,7 +84,7 @@ all-eq (a ∷ l) (b ∷ bs) t = ap₂ _∷_ (one-eq a b (and-left (sameOne a b) 
 module _ (n t : ℕ) (z : Size n) (h : t ≤ maxTarget n) where
   tested : list-test n t ≡ true
   tested =
-      let a = all-each (λ n. all (list-test n) (span 0 (maxTarget n + 1))) (span-mem 2 8 n (z .low) (omega (arith, z .high))) list-tests in
+      let a = at-size (λ n. all (list-test n) (span 0 (maxTarget n + 1))) list-tests n z in
       all-each (list-test n) (span-mem 0 (maxTarget n + 1) t (omega arith) (omega arith)) a
 
   others : (all (known-test n) (numbersFor n t) && sameAll (map (arrangementOf n) (numbersFor n t)) (arrangements n t)) ≡ true

@@ -51,7 +51,7 @@ pub record AnswerAsk (answer : Solved) (n : ℕ) (g : List ℕ) (room : ℕ) : T
   pub fits : 99 ≤ room
 
 -- A size from 2 to 9, its targets, as many cells as it has, and room.
-pub record CellsAsk (n : ℕ) (targets : List ℕ) (cells room : ℕ) : Type 0 where
+pub record SolveTargetsAsk (n : ℕ) (targets : List ℕ) (cells room : ℕ) : Type 0 where
   pub size-fits : sizeFits n ≡ true
   pub long : length targets ≡ 2 * n
   pub square : cells ≡ n * n

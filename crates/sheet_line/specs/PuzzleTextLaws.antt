@@ -21,7 +21,7 @@ use Rattle.engine.specs.declared.Solved.{Solved}
 use Rattle.engine.specs.Solve.{solvedAs, SolveGiven}
 use Rattle.sheet_rules.specs.Text.{answerText}
 use Rattle.sheet_text.specs.Put.{Put, shown, SolvedAsk}
-use Rattle.sheet_line.specs.Line.{solvedText, showsGrid, AnswerAsk, CellsAsk, TargetsAsk, PuzzleText}
+use Rattle.sheet_line.specs.Line.{solvedText, showsGrid, AnswerAsk, SolveTargetsAsk, TargetsAsk, PuzzleText}
 
 -- ---- the text of an answer
 
@@ -66,7 +66,7 @@ only-puzzle : (p : Puzzle) (len : ℕ) → len ≡ p .size * p .size → refusal
 unfolding refusal solveChecks countChecks join
 only-puzzle p len e = rw (eq-eqb len (p .size * p .size) e)
 
-module _ {n : ℕ} {ts : List ℕ} {room : ℕ} {answer : Solved} {cells cells′ : List ℕ} (a : CellsAsk n ts (length cells) room)
+module _ {n : ℕ} {ts : List ℕ} {room : ℕ} {answer : Solved} {cells cells′ : List ℕ} (a : SolveTargetsAsk n ts (length cells) room)
     (s : SolveGiven (puzzle n (take n ts) (take (length ts - n) (drop n ts))) (marksOf []) answer cells cells′) (long : length cells′ ≡ length cells) where
   abbrev p : Puzzle
   p = puzzle n (take n ts) (take (length ts - n) (drop n ts))
@@ -107,11 +107,11 @@ module _ {n : ℕ} {ts : List ℕ} {room : ℕ} {answer : Solved} {cells cells�
 pub front-long : (k : ℕ) (l : List ℕ) → k ≤ length l → k ≡ length (take k l)
 front-long k l h = sym (length-take k l ∙ omega arith)
 
-pub rows-long : {n : ℕ} {ts : List ℕ} {m room : ℕ} → CellsAsk n ts m room → n ≡ length (take n ts)
+pub rows-long : {n : ℕ} {ts : List ℕ} {m room : ℕ} → SolveTargetsAsk n ts m room → n ≡ length (take n ts)
 rows-long {n} {ts} a = front-long n ts (omega (arith, a .long))
 
 pub area : {n : ℕ} {ts : List ℕ} {room : ℕ} → TargetsAsk n ts room → n * n ≤ 81
 area {n} a = size-in n (a .size-fits) .square
 
-pub targets-solve : {n : ℕ} {ts : List ℕ} {room m : ℕ} → TargetsAsk n ts room → m ≡ n * n → CellsAsk n ts m room
+pub targets-solve : {n : ℕ} {ts : List ℕ} {room m : ℕ} → TargetsAsk n ts room → m ≡ n * n → SolveTargetsAsk n ts m room
 targets-solve a e = record { size-fits = a .size-fits; long = a .long; square = e; fits = a .fits }

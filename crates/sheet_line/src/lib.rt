@@ -10,7 +10,7 @@ use sheet_text::write_text;
 ghost use lib.ListN.{length, take, drop};
 ghost use Rattle.sheet_text.specs.Put.{Put};
 ghost use Rattle.puzzle.specs.Given.{puzzle};
-ghost use Rattle.sheet_line.specs.Line.{LineGiven, solvedText, AnswerAsk, CellsAsk, TargetsAsk, NumbersAsk, PuzzleText, NumbersText};
+ghost use Rattle.sheet_line.specs.Line.{LineGiven, solvedText, AnswerAsk, SolveTargetsAsk, TargetsAsk, NumbersAsk, PuzzleText, NumbersText};
 
 // The text of an answer of Solve.
 fn write_answer(answer: Solved, n: usize, cells: &[u8], out: &mut [u8]) -> usize
@@ -27,7 +27,7 @@ fn write_answer(answer: Solved, n: usize, cells: &[u8], out: &mut [u8]) -> usize
 
 // Solves the puzzle with its row targets in front of its column targets, into cells of its size.
 fn solve_targets(n: usize, targets: &[u8], cells: &mut [u8], out: &mut [u8]) -> usize
-    requires { ⌜ CellsAsk n (now targets) (length (now cells)) (length (now out)) ⌝ }
+    requires { ⌜ SolveTargetsAsk n (now targets) (length (now cells)) (length (now out)) ⌝ }
     ensures { λ r. ⌜ PuzzleText (puzzle n (take n (now (targets .entry))) (drop n (now (targets .entry)))) r (now (out .entry)) (now (out .exit)) ⌝ }
 {
     let answer = solve(n, &targets[..n], &targets[n..], &targets[..0], cells);

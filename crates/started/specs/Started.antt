@@ -11,8 +11,7 @@ use lib.ListN.{getD}
 use borrow.Author.Tests.{lt-ltb, le-ltb, eqb-true}
 use Rattle.tally.specs.Tally.{span, all}
 use Rattle.rules.specs.Grid.{Line, across, down}
-use Rattle.checks.specs.SizeLaws.{Size}
-use Rattle.value.specs.MaskLaws.{at-size}
+use Rattle.checks.specs.SizeLaws.{Size, at-size}
 use Rattle.bits.specs.Sum.{sum}
 use Rattle.bits.specs.SumLaws.{sum-same}
 use Rattle.slab.specs.Slab.{cand, lag}

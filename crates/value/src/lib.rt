@@ -4,7 +4,9 @@ ghost use mathlib.Core.Path.{_≡_};
 ghost use Rattle.rules.specs.Line.{digits};
 ghost use Rattle.rules.specs.Check.{named};
 ghost use Rattle.checks.specs.SizeLaws.{Size};
-ghost use Rattle.value.specs.Mask.{maskOf, rowHalf, columnHalf, everyValue};
+ghost use Rattle.rules.specs.Mark.{leftBlack, upperBlack};
+ghost use Rattle.table.specs.Table.{half, everyValue};
+ghost use Rattle.value.specs.Mask.{maskOf};
 
 pub struct Value {
     pub code: usize,
@@ -56,7 +58,7 @@ impl Value {
     // The digits and the blacks of the row.
     pub fn row_half(n: usize) -> u16
         requires { ⌜ Size n ⌝ }
-        ensures { λ r. ⌜ r ≡ maskOf (rowHalf n) ⌝ }
+        ensures { λ r. ⌜ r ≡ maskOf (half n leftBlack) ⌝ }
     {
         Value::all_digits(n) + Value::ROW_BLACKS
     }
@@ -64,7 +66,7 @@ impl Value {
     // The digits and the blacks of the column.
     pub fn col_half(n: usize) -> u16
         requires { ⌜ Size n ⌝ }
-        ensures { λ r. ⌜ r ≡ maskOf (columnHalf n) ⌝ }
+        ensures { λ r. ⌜ r ≡ maskOf (half n upperBlack) ⌝ }
     {
         Value::all_digits(n) + Value::COL_BLACKS
     }

@@ -71,7 +71,7 @@ pub filled-start : (n : ℕ) (ws : List ℕ) → length ws ≡ 1152 → FilledTo
 filled-start n ws e = record { long = e; most = omega arith; each = λ id h y. absurd (omega arith) }
 
 -- `1 << n - 1` of 16 bits
-top-is : (n : ℕ) → Size n → 1 * 2 ^ (n - 1) % 65536 ≡ 2 ^ (n - 1)
+pub top-is : (n : ℕ) → Size n → 1 * 2 ^ (n - 1) % 65536 ≡ 2 ^ (n - 1)
 top-is n z = shl-one (n - 1) (omega (arith, z .high))
 
 module _ {n s : ℕ} {ws : List ℕ} (z : Size n) (g : FilledTo n s ws) (h : s < 128) where

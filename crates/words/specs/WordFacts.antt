@@ -10,8 +10,8 @@ use Rattle.tally.specs.Tally.{span, all, keep, sum}
 use Rattle.tally.specs.TallyLaws.{span-mem, and-left, and-right}
 use Rattle.tally.specs.WayLaws.{all-each}
 use Rattle.bits.specs.Bit.{bit}
-use Rattle.checks.specs.SizeLaws.{Size}
-use Rattle.words.specs.Word.{subsetTable, subset, maskIn, sumIn, sizeIn, digitsOf, innerPlaces, steps}
+use Rattle.checks.specs.SizeLaws.{Size, at-size}
+use Rattle.words.specs.Word.{subsetTable, subset, sumTable, fromSum, maskIn, sumIn, sizeIn, digitsOf, innerPlaces, steps}
 
 -- a test that is computed at each number of a span
 at : (q : ℕ → Bool) (a k x : ℕ) → a ≤ x → x < a + k → all q (span a k) ≡ true → q x ≡ true
@@ -33,6 +33,10 @@ fit-test s n = cond (ltb (maskIn s) (2 ^ (n - 1))) (leb (sizeIn s + 2) n) true
 fit-tests : all (λ s. all (fit-test s) (span 2 8)) (span 0 128) ≡ true
 unfolding fit-test subsetTable subset span all
 fit-tests = refl
+
+sum-tests : all (λ k. leb (fromSum k) 128) (span 0 30) ≡ true
+unfolding fromSum sumTable span all
+sum-tests = refl
 
 ring-test : ℕ → ℕ → ℕ → ℕ → Bool
 ring-test n len start p = eqb (bit p (innerPlaces n len start)) (cond (ltb p n && (ltb 0 (steps n start p) && leb (steps n start p) len)) 1 0)
@@ -65,16 +69,20 @@ module _ (s : ℕ) (h : s < 128) where
   unfolding fit-test
   subset-fits n z m =
       let t = at (λ s. all (fit-test s) (span 2 8)) 0 128 s (omega arith) (omega arith) fit-tests in
-      let u = at (fit-test s) 2 8 n (z .low) (omega (arith, z .high)) t in
+      let u = at-size (fit-test s) t n z in
       leb-true (sizeIn s + 2) n (rw (lt-ltb (maskIn s) (2 ^ (n - 1)) m) at u)
+
+-- the subsets of each sum begin within the table
+pub from-sum-most : (k : ℕ) → k < 30 → fromSum k ≤ 128
+from-sum-most k h = leb-true (fromSum k) 128 (at (λ k. leb (fromSum k) 128) 0 30 k (omega arith) (omega arith) sum-tests)
 
 -- ---- the inner places
 
 module _ (n len start : ℕ) (z : Size n) (l : len + 2 ≤ n) (h : start < n) where
   rings : (all (ring-test n len start) (span 0 9) && ltb (innerPlaces n len start) 512) ≡ true
   rings =
-      let t = at (λ n. all (λ len. all (λ start. all (ring-test n len start) (span 0 9) && ltb (innerPlaces n len start) 512) (span 0 n)) (span 0 (n - 1)))
-      2 8 n (z .low) (omega (arith, z .high)) ring-tests in
+      let t = at-size (λ n. all (λ len. all (λ start. all (ring-test n len start) (span 0 9) && ltb (innerPlaces n len start) 512) (span 0 n)) (span 0 (n - 1)))
+      ring-tests n z in
       let u = at (λ len. all (λ start. all (ring-test n len start) (span 0 9) && ltb (innerPlaces n len start) 512) (span 0 n)) 0 (n - 1) len (omega arith)
       (omega arith) t in
       at (λ start. all (ring-test n len start) (span 0 9) && ltb (innerPlaces n len start) 512) 0 n start (omega arith) (omega arith) u
