@@ -97,7 +97,7 @@ pub fn refused() -> Vec<Asked> {
 fn refused_at(size: usize) -> Vec<Asked> {
     let Puzzle { rows, columns, .. } = inputs::short_puzzle(size);
     let above = vec![rules::greatest_target(size) as u8 + 1; size];
-    let place = mark(size, 0, 12, 0);
+    let place = Mark::rejecting(size, 0, 12, 0);
     let faulty = rules::word_bytes(&[place]);
     let with = |rows: &[u8], columns: &[u8], marks: &[u8]| Asked {
         size,
@@ -106,7 +106,7 @@ fn refused_at(size: usize) -> Vec<Asked> {
         marks: marks.to_vec(),
     };
     let with_marks = |marks: &[u16]| with(&rows, &columns, &rules::word_bytes(marks));
-    let good = mark(0, 0, 8, 0);
+    let good = Mark::rejecting(0, 0, 8, 0);
     let mut half = with_marks(&[good]);
     half.marks.push(0);
     vec![
@@ -114,24 +114,11 @@ fn refused_at(size: usize) -> Vec<Asked> {
         with(&above, &[&columns[..], &[0]].concat(), &faulty),
         with(&above, &columns, &faulty),
         with(&rows, &above, &faulty),
-        with_marks(&[good, mark(size, size, 0, 1), place]),
+        with_marks(&[good, Mark::rejecting(size, size, 0, 1), place]),
         half,
-        with_marks(&[place, mark(0, 0, 0, 1)]),
-        with_marks(&[mark(0, 0, 12, 0), mark(0, 0, 0, 1)]),
+        with_marks(&[place, Mark::rejecting(0, 0, 0, 1)]),
+        with_marks(&[Mark::rejecting(0, 0, 12, 0), Mark::rejecting(0, 0, 0, 1)]),
     ]
-}
-
-/// A rejecting mark.
-fn mark(row: usize, column: usize, value: u8, spare: u8) -> u16 {
-    let rejected = true;
-    Mark {
-        rejected,
-        row,
-        column,
-        value,
-        spare,
-    }
-    .pack()
 }
 
 /// As `rules::solve_refusal`.

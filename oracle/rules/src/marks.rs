@@ -21,6 +21,19 @@ impl Mark {
         }
     }
 
+    /// The 16 bits of a mark that rejects.
+    pub fn rejecting(row: usize, column: usize, value: u8, spare: u8) -> u16 {
+        let rejected = true;
+        let mark = Self {
+            rejected,
+            row,
+            column,
+            value,
+            spare,
+        };
+        mark.pack()
+    }
+
     /// The 16 bits of this mark.
     pub fn pack(self) -> u16 {
         u16::from(self.rejected) << 15

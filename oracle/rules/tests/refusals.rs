@@ -105,15 +105,7 @@ fn marks_are_unpacked_from_the_top() {
 #[test]
 fn marks_check_spare_bits_place_value() {
     let refused = |size, row, column, value, spare| {
-        let rejected = false;
-        let mark = Mark {
-            rejected,
-            row,
-            column,
-            value,
-            spare,
-        };
-        marks_refusal(size, &[mark.pack()])
+        marks_refusal(size, &[Mark::rejecting(row, column, value, spare)])
     };
     assert_eq!(refused(3, 3, 3, 0, 1), Some(4));
     assert_eq!(refused(3, 3, 0, 0, 0), Some(5));

@@ -158,26 +158,15 @@ fn faulty_marks<R: Rest>() -> impl Iterator<Item = Input<R>> {
 }
 
 fn one_of_each(size: usize) -> Vec<u16> {
-    let mark = |row, column, value, spare| {
-        let rejected = true;
-        let mark = Mark {
-            rejected,
-            row,
-            column,
-            value,
-            spare,
-        };
-        mark.pack()
-    };
     let other_digit = size as u8 - 1;
     vec![
-        mark(0, 0, 8, 0),
-        mark(0, 0, 8, 4),
-        mark(size, size, 15, 1),
-        mark(0, size, 8, 0),
-        mark(size, 0, 0, 0),
-        mark(0, 0, if size == 9 { 0 } else { other_digit }, 0),
-        mark(0, 0, 12, 0),
+        Mark::rejecting(0, 0, 8, 0),
+        Mark::rejecting(0, 0, 8, 4),
+        Mark::rejecting(size, size, 15, 1),
+        Mark::rejecting(0, size, 8, 0),
+        Mark::rejecting(size, 0, 0, 0),
+        Mark::rejecting(0, 0, if size == 9 { 0 } else { other_digit }, 0),
+        Mark::rejecting(0, 0, 12, 0),
     ]
 }
 
