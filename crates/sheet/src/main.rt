@@ -1,93 +1,160 @@
 // Answers the puzzles on standard input, line by line, on standard output (docs/INTERFACE.md, "The program `sheet`").
-// What is read and written is not in any contract: sheet_stream says what the bytes are.
+// What is read and written is not in any contract: sheet_stream says what the bytes are, and here they are only handed on.
+use libc::EINTR;
 use libc::STDIN_FILENO;
 use libc::STDOUT_FILENO;
-use sheet_stream::feed;
-use sheet_stream::feed_end;
+use sheet_stream::Stream;
 ghost use mathlib.Core.Path.{_≡_};
 ghost use Prim.Native.Nat.{_≤_};
 ghost use lib.ListN.{length};
-ghost use Rattle.sheet_stream.specs.Fed.{KeptAsk};
+ghost use Rattle.sheet_stream.specs.Stream.{KeptFits};
 
-// How many bytes are kept of the line that is not ended, and whether the input is read on.
+// What comes next: more input, the end of the input, or nothing, because a read or a write failed.
+enum Next {
+    Read,
+    End,
+    Stop,
+}
+
+// The stream behind what was read, and what comes next.
 struct Turn {
-    kept: usize,
+    stream: Stream,
+    next: Next,
+}
+
+// Of a call that moved no byte: one that a signal interrupted is made again, any other is told on standard error.
+fn is_interrupted(answer: isize, what: &[u8]) -> bool {
+    if answer < 0 {
+        if os::errno() == EINTR {
+            return true;
+        }
+    }
+    os::fail(what);
+    false
+}
+
+// How many bytes a write took, and whether more can be written.
+struct Wrote {
+    count: usize,
     goes_on: bool,
 }
 
-// Answers the lines of a block. Where a write fails nothing is kept, so that no more is written.
-fn answer_block(block: &[u8], kept: &mut [u8], k: usize) -> Turn
-    requires { ⌜ KeptAsk (length (now kept)) k ⌝ }
-    ensures { λ r. ⌜ r .kept ≤ 81 ⌝ }
+fn write_some(bytes: &[u8]) -> Wrote
+    ensures { λ r. ⌜ r .count ≤ length (now (bytes .entry)) ⌝ }
 {
-    let mut out = io::large_buffer();
-    let mut done = 0;
-    let mut held = k;
-    while done < block.len() {
-        let fed = feed(&block[done..], kept, held, &mut out);
-        let written = fed.written;
-        if !io::write_all(STDOUT_FILENO, &out[..written]) {
-            return Turn {
-                kept: 0,
-                goes_on: false,
-            };
-        }
-        held = fed.kept;
-        done += fed.read;
+    let answer = libc::write(STDOUT_FILENO, bytes);
+    let count = io::count(answer, bytes);
+    if count > 0 {
+        return Wrote {
+            count,
+            goes_on: true,
+        };
     }
-    Turn {
-        kept: held,
-        goes_on: true,
+    Wrote {
+        count: 0,
+        goes_on: is_interrupted(answer, b"sheet: cannot write to standard output"),
     }
 }
 
-// Reads a block, and answers its lines.
-fn answer_some(kept: &mut [u8], k: usize) -> Turn
-    requires { ⌜ KeptAsk (length (now kept)) k ⌝ }
-    ensures { λ r. ⌜ r .kept ≤ 81 ⌝ }
+// Writes all bytes, or tells why not. A proved loop has to end, so the turns are counted down from a number that no run uses up.
+fn write_out(bytes: &[u8]) -> bool {
+    let mut turns = u64::MAX;
+    let mut done = 0;
+    while turns > 0 {
+        if done == bytes.len() {
+            return true;
+        }
+        let wrote = write_some(&bytes[done..]);
+        if !wrote.goes_on {
+            return false;
+        }
+        done += wrote.count;
+        turns -= 1;
+    }
+    false
+}
+
+// Where a read failed.
+fn after_failed_read(answer: isize) -> Next {
+    if is_interrupted(answer, b"sheet: cannot read standard input") {
+        Next::Read
+    } else {
+        Next::Stop
+    }
+}
+
+// Reads a block, and writes what answers its lines.
+fn answer_block(stream: Stream, out: &mut [u8]) -> Turn
+    requires { ⌜ KeptFits stream × (413696 ≤ length (now out)) ⌝ }
+    ensures { λ r. ⌜ KeptFits (r .stream) ⌝ }
 {
-    let mut block = io::large_buffer();
+    let mut block = io::buffer();
     let got = libc::read(STDIN_FILENO, &mut block);
-    if got <= 0 {
+    if got < 0 {
         return Turn {
-            kept: k,
-            goes_on: false,
+            stream,
+            next: after_failed_read(got),
         };
     }
     let n = io::count(got, &block);
-    answer_block(&block[..n], kept, k)
+    if n == 0 {
+        return Turn {
+            stream,
+            next: Next::End,
+        };
+    }
+    let fed = stream.feed(&block[..n], out);
+    let behind = fed.stream;
+    let written = fed.written;
+    if !write_out(&out[..written]) {
+        return Turn {
+            stream: behind,
+            next: Next::Stop,
+        };
+    }
+    Turn {
+        stream: behind,
+        next: Next::Read,
+    }
 }
 
-// Answers all lines that are ended, and gives how many bytes are kept of the last one. A proved loop has to end, so the turns are counted down from
-// a number that no run uses up.
-fn answer_all(kept: &mut [u8]) -> usize
-    requires { ⌜ 81 ≤ length (now kept) ⌝ }
-    ensures { λ r. ⌜ r ≤ 81 ⌝ }
+// Answers the lines of one block after the other, until the input ends or a call fails. The turns are counted down, as above.
+fn answer_all(out: &mut [u8]) -> Turn
+    requires { ⌜ 413696 ≤ length (now out) ⌝ }
+    ensures { λ r. ⌜ KeptFits (r .stream) ⌝ }
 {
     let mut turns = u64::MAX;
-    let mut k = 0;
+    let mut stream = Stream::new();
     while turns > 0 {
-        let turn = answer_some(kept, k);
-        k = turn.kept;
-        if !turn.goes_on {
-            return k;
-        }
+        let turn = answer_block(stream, out);
+        let next = turn.next;
+        let Next::Read = next else {
+            return turn;
+        };
+        stream = turn.stream;
         turns -= 1;
     }
-    k
+    Turn {
+        stream,
+        next: Next::Stop,
+    }
 }
 
-// Room for a line that is kept, and for the text that answers it.
-fn room() -> [u8; 128]
-    ensures { λ r. ⌜ 128 ≡ length r ⌝ }
+// Room for what answers a block of 4,096 bytes: at most 101 bytes for each of them.
+fn room() -> [u8; 413696]
+    ensures { λ r. ⌜ 413696 ≡ length r ⌝ }
 {
-    [0; 128]
+    [0; 413696]
 }
 
 fn main() {
-    let mut kept = room();
-    let k = answer_all(&mut kept);
     let mut out = room();
-    let n = feed_end(&kept, k, &mut out);
-    io::write_all(STDOUT_FILENO, &out[..n]);
+    let turn = answer_all(&mut out);
+    let next = turn.next;
+    let Next::End = next else {
+        return;
+    };
+    let stream = turn.stream;
+    let n = stream.end(&mut out);
+    write_out(&out[..n]);
 }

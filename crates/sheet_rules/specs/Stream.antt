@@ -20,3 +20,7 @@ pub data Written (begun : List ℕ) : (input left output : List ℕ) → Type 0 
 pub data LastWritten (left : List ℕ) : (output : List ℕ) → Type 0 where
   none : left ≡ [] → LastWritten left []
   last : (text : List ℕ) → (left ≡ [] → ⊥) → Answered left text → LastWritten left (text ++ lineEnd ∷ [])
+
+-- A whole input and its whole output: the answers to the lines that are ended in it, and then what is written for the line that is left.
+pub data Streamed (input : List ℕ) : (output : List ℕ) → Type 0 where
+  streamed : {left o l : List ℕ} → Written [] input left o → LastWritten left l → Streamed input (o ++ l)

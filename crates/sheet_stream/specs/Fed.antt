@@ -1,13 +1,12 @@
 -- What feeding bytes asks and gives. Assumes nothing.
-use Prim.Native.Nat.{ℕ, _+_, _≤_, _<_}
+use Prim.Native.Nat.{ℕ, _*_, _≤_}
 use mathlib.Core.Path.{_≡_}
 use mathlib.Core.List.{List, [], _∷_, _++_}
 use lib.ListN.{length, take}
 use Rattle.sheet_rules.specs.Answered.{Answered}
-use Rattle.sheet_rules.specs.Stream.{lineEnd, Written, LastWritten}
+use Rattle.sheet_rules.specs.Stream.{lineEnd, Written}
 use Rattle.sheet_text.specs.Put.{Put}
-use Rattle.sheet_stream.specs.declared.Fed.{Fed}
-use Rattle.sheet_stream.specs.declared.Progress.{Progress}
+use Rattle.sheet_stream.specs.declared.Counts.{Counts}
 
 -- The first k bytes of the buffer are the first 81 of the line, or all of a shorter one.
 abbrev pub Keeps : List ℕ → ℕ → List ℕ → Type 0
@@ -22,11 +21,11 @@ pub record KeptAsk (room k : ℕ) : Type 0 where
 pub record EndAsk (room : ℕ) : Type 0 where
   pub fits : 101 ≤ room
 
--- Both.
-pub record ByteAsk (kept k room : ℕ) : Type 0 where
+-- Both, for each byte of a block.
+pub record BytesAsk (block kept k room : ℕ) : Type 0 where
   pub long : 81 ≤ kept
   pub within : k ≤ 81
-  pub fits : 101 ≤ room
+  pub fits : 101 * block ≤ room
 
 -- The line goes on with a byte.
 pub record ByteKept (b : ℕ) (kept : List ℕ) (k : ℕ) (kept′ : List ℕ) (k′ : ℕ) : Type 0 where
@@ -39,6 +38,7 @@ pub record LineEnded (line : List ℕ) (counted : ℕ) (out out′ : List ℕ) :
   pub text : List ℕ
   pub answers : Answered line text
   pub put : Put (text ++ lineEnd ∷ []) counted out out′
+  pub most : counted ≤ 101
 
 -- The input goes on, behind the line that has begun: what is written for it stands at the front, and what is left of it is kept.
 pub record GoesOn (begun input out kept′ : List ℕ) (k′ counted : ℕ) (out′ : List ℕ) : Type 0 where
@@ -49,29 +49,16 @@ pub record GoesOn (begun input out kept′ : List ℕ) (k′ counted : ℕ) (out
   pub put : Put output counted out out′
 
 -- One byte is fed.
-pub record ByteFed (b : ℕ) (kept : List ℕ) (k : ℕ) (out : List ℕ) (fed : Fed) (kept′ out′ : List ℕ) : Type 0 where
+pub record ByteFed (b : ℕ) (kept : List ℕ) (k : ℕ) (out : List ℕ) (fed : Counts) (kept′ out′ : List ℕ) : Type 0 where
   pub within : fed .kept ≤ 81
   pub size : length kept′ ≡ length kept
   pub room : length out′ ≡ length out
-  pub count : fed .written ≤ length out
+  pub count : fed .written ≤ 101
   pub goes-on : (begun : List ℕ) → Keeps kept k begun → GoesOn begun (b ∷ []) out kept′ (fed .kept) (fed .written) out′
 
--- A block is fed, as far as it is read: not at all only if it is empty or the buffer has less than 101 bytes, and whole if there is room.
-pub record BlockFed (block kept : List ℕ) (k : ℕ) (out : List ℕ) (done : Progress) (kept′ out′ : List ℕ) : Type 0 where
-  pub within : done .kept ≤ 81
+-- All bytes of a block are fed.
+pub record BytesFed (block kept : List ℕ) (k : ℕ) (out : List ℕ) (fed : Counts) (kept′ out′ : List ℕ) : Type 0 where
+  pub within : fed .kept ≤ 81
   pub size : length kept′ ≡ length kept
-  pub some : 0 < length block → 101 ≤ length out → 0 < done .read
-  pub most : done .read ≤ length block
-  pub whole : done .read < length block → length out < done .written + 101
-  pub count : done .written ≤ length out
-  pub goes-on : (begun : List ℕ) → Keeps kept k begun → GoesOn begun (take (done .read) block) out kept′ (done .kept) (done .written) out′
-
--- The line that is left, where the input ends.
-pub record LastPut (line : List ℕ) (counted : ℕ) (out out′ : List ℕ) : Type 0 where
-  pub output : List ℕ
-  pub writes : LastWritten line output
-  pub put : Put output counted out out′
-
-pub record LastGiven (kept : List ℕ) (k : ℕ) (counted : ℕ) (out out′ : List ℕ) : Type 0 where
-  pub count : counted ≤ length out
-  pub ends : (line : List ℕ) → Keeps kept k line → LastPut line counted out out′
+  pub count : fed .written ≤ length out
+  pub goes-on : (begun : List ℕ) → Keeps kept k begun → GoesOn begun block out kept′ (fed .kept) (fed .written) out′

@@ -1,27 +1,25 @@
 -- Bytes fed one after the other. Assumes nothing.
-use Prim.Native.Nat.{ℕ, _+_, _-_, _≤_, _<_}
+use Prim.Native.Nat.{ℕ, _+_, _-_, _*_, _≤_, _<_}
 use mathlib.Core.Path.{_≡_, refl, sym, ap, subst, _∙_}
 use mathlib.Core.List.{List, [], _∷_, _++_, append-assoc}
 use native.Mathlib.Omega.{arith}
-use native.Mathlib.Decide.{ℕ-discrete}
 use native.Mathlib.Numerals.{add-one}
 use lib.ListN.{length, getD, take, drop, set, length-append, length-take, length-drop, length-set, take-append-drop}
 use lib.Seq.{take-all, take-append-le, take-suc, take-suc-set, drop-append-le, length-take-le}
 use Rattle.sheet_rules.specs.Answered.{Answered}
-use Rattle.sheet_rules.specs.Stream.{lineEnd, Written, nothing, byte, ended, none, last}
+use Rattle.sheet_rules.specs.Stream.{lineEnd, Written, nothing, byte, ended}
 use Rattle.sheet_text.specs.Put.{Put}
 use Rattle.sheet_text.specs.PutLaws.{put-none, put-byte, put-both}
 use Rattle.sheet_line.specs.Line.{LineText, LineGiven}
 use Rattle.sheet_line.specs.PuzzleTextLaws.{front-long}
-use Rattle.sheet_stream.specs.declared.Fed.{Fed}
-use Rattle.sheet_stream.specs.declared.Progress.{Progress}
-use Rattle.sheet_stream.specs.Fed.{Keeps, KeptAsk, EndAsk, ByteAsk, ByteKept, LineEnded, GoesOn, ByteFed, BlockFed, LastGiven}
+use Rattle.sheet_stream.specs.declared.Counts.{Counts}
+use Rattle.sheet_stream.specs.Fed.{Keeps, KeptAsk, EndAsk, BytesAsk, ByteKept, LineEnded, GoesOn, ByteFed, BytesFed}
 use Rattle.sheet_stream.specs.StreamLaws.{answered-kept, written-then}
 
 -- ---- the bytes that are kept
 
 -- how long the line is, as far as it is kept
-reach : (kept : List ℕ) (k : ℕ) (line : List ℕ) → k ≤ 81 → 81 ≤ length kept → Keeps kept k line → k ≡ length (take 81 line)
+pub reach : (kept : List ℕ) (k : ℕ) (line : List ℕ) → k ≤ 81 → 81 ≤ length kept → Keeps kept k line → k ≡ length (take 81 line)
 reach kept k line h g e = front-long k kept (omega arith) ∙ ap length e
 
 module _ {b : ℕ} {kept : List ℕ} {k : ℕ} (a : KeptAsk (length kept) k) where
@@ -80,6 +78,7 @@ module _ (out : List ℕ) (a : EndAsk (length out)) {line : List ℕ} {n : ℕ} 
         text = given .text;
         answers = given .answers;
         put = put-byte lineEnd (put-front (a .fits) (given .put)) (omega (arith, ended-count, a .fits));
+        most = omega (arith, ended-count);
       }
 
 -- ---- a byte
@@ -91,7 +90,7 @@ module _ {b : ℕ} {kept : List ℕ} {k : ℕ} {out : List ℕ} where
         within = omega arith;
         size = refl;
         room = w .put .size;
-        count = w .put .fits;
+        count = w .most;
         goes-on = λ begun e.
             record {
               left = [];
@@ -117,136 +116,71 @@ module _ {b : ℕ} {kept : List ℕ} {k : ℕ} {out : List ℕ} where
 
 -- ---- a block
 
--- The bytes of a block in front of a place are fed.
+-- The first i bytes of a block are fed.
 pub record Feeding (block kept₀ : List ℕ) (k₀ : ℕ) (out₀ : List ℕ) (i : ℕ) (kept : List ℕ) (k at : ℕ) (out : List ℕ) : Type 0 where
   pub within : k ≤ 81
   pub long : 81 ≤ length kept
   pub size : length kept ≡ length kept₀
   pub room : length out ≡ length out₀
-  pub count : at ≤ length out₀
+  pub fits : 101 * length block ≤ length out₀
+  pub count : at ≤ 101 * i
   pub most : i ≤ length block
-  pub none : i ≡ 0 → at ≡ 0
   pub goes-on : (begun : List ℕ) → Keeps kept₀ k₀ begun → GoesOn begun (take i block) out₀ kept k at out
 
-pub feeding-start : (block : List ℕ) {kept : List ℕ} {k : ℕ} (out : List ℕ) → KeptAsk (length kept) k → Feeding block kept k out 0 kept k 0 out
-feeding-start block out a =
+pub feeding-start : {block kept : List ℕ} {k : ℕ} {out : List ℕ} → BytesAsk (length block) (length kept) k (length out) → Feeding block kept k out 0 kept k 0 out
+feeding-start {out = out} a =
     record {
       within = a .within;
       long = a .long;
       size = refl;
       room = refl;
+      fits = a .fits;
       count = omega arith;
       most = omega arith;
-      none = λ e. refl;
       goes-on = λ begun e. record { left = begun; output = []; writes = nothing; keeps = e; put = put-none out };
     }
 
 module _ {block kept₀ : List ℕ} {k₀ : ℕ} {out₀ : List ℕ} {i : ℕ} {kept : List ℕ} {k at : ℕ} {out : List ℕ} (w : Feeding block kept₀ k₀ out₀ i kept k at out) where
-  pub feeding-end : length block ≤ i → BlockFed block kept₀ k₀ out₀ (record { read = i; kept = k; written = at }) kept out
+  pub feeding-end : length block ≤ i → BytesFed block kept₀ k₀ out₀ (record { kept = k; written = at }) kept out
   feeding-end h =
       record {
         within = w .within;
         size = w .size;
-        some = λ b r. omega arith;
-        most = w .most;
-        whole = λ g. absurd (omega arith);
-        count = w .count;
-        goes-on = w .goes-on;
+        count = omega (arith, w .count, w .fits, w .most);
+        goes-on = λ begun e. subst (λ b. GoesOn begun b out₀ kept k at out) (take-all i block h) (w .goes-on begun e);
       }
 
-  pub feeding-full : i < length block → length out - at < 101 → BlockFed block kept₀ k₀ out₀ (record { read = i; kept = k; written = at }) kept out
-  feeding-full h f =
-      record {
-        within = w .within;
-        size = w .size;
-        some = λ b r. elim (ℕ-discrete i 0) [ yes z ↦ absurd (omega (arith, w .none z, w .room)) | no z ↦ omega arith ];
-        most = w .most;
-        whole = λ g. omega (arith, w .room);
-        count = w .count;
-        goes-on = w .goes-on;
-      }
+  module _ (h : i < length block) where
+    feeding-room : at + 101 ≤ length out
+    feeding-room = omega (arith, w .count, w .fits, w .room)
 
-  pub feeding-ask : 101 ≤ length out - at → ByteAsk (length kept) k (length (take (length out - at) (drop at out)))
-  feeding-ask h =
-      record {
-        long = w .long;
-        within = w .within;
-        fits = rw (length-take (length out - at) (drop at out)) (omega (arith, length-drop at out));
-      }
-
-  module _ (h : i < length block) {fed : Fed} {kept′ ys : List ℕ} (v : ByteFed (getD block i 0) kept k (take (length out - at) (drop at out)) fed kept′ ys) where
-    pub feeding-sum : at + fed .written ≤ length out₀
-    feeding-sum = omega (arith, v .count, w .count, w .room, length-take (length out - at) (drop at out), length-drop at out)
-
-    pub feeding-next : Feeding block kept₀ k₀ out₀ (i + 1) kept′ (fed .kept) (at + fed .written) (take at out ++ (ys ++ drop (length out - at) (drop at out)))
-    feeding-next =
-        let t = length-take (length out - at) (drop at out) in
-        let d = length-drop at out in
-        let n : length (take at out) ≡ at = length-take-le at out (omega (arith, w .count, w .room)) in
-        let z : length (drop (length out - at) (drop at out)) ≡ 0 = length-drop (length out - at) (drop at out) ∙ omega arith in
-        record {
-          within = v .within;
-          long = omega (arith, v .size, w .long);
-          size = v .size ∙ w .size;
-          room =
-              length-append (take at out) (ys ++ drop (length out - at) (drop at out))
-              ∙ ap (λ m. length (take at out) + m) (length-append ys (drop (length out - at) (drop at out)))
-              ∙ omega (arith, v .room, w .count, w .room);
-          count = feeding-sum;
-          most = omega arith;
-          none = λ e. absurd (omega arith);
-          goes-on = λ begun e.
-              let g = w .goes-on begun e in
-              let x = v .goes-on (g .left) (g .keeps) in
-              let more : take (i + 1) block ≡ take i block ++ getD block i 0 ∷ [] = rw (add-one i) (take-suc block i 0 h) in
-              record {
-                left = x .left;
-                output = g .output ++ x .output;
-                writes = subst (λ b. Written begun b (x .left) (g .output ++ x .output)) (sym more) (written-then (g .writes) (x .writes));
-                keeps = x .keeps;
-                put = put-both (g .put) (x .put);
-              };
-        }
-
--- ---- the last line
-
-nothing-kept : (line : List ℕ) → 0 ≡ length (take 81 line) → line ≡ []
-nothing-kept [] e = refl
-nothing-kept (b ∷ line) e = absurd (omega arith)
-
-pub last-none : {kept : List ℕ} {k : ℕ} (out : List ℕ) → k ≡ 0 → LastGiven kept k 0 out out
-last-none {kept} {k} out z =
-    record {
-      count = omega arith;
-      ends = λ line e.
-          let q : 0 ≡ length (take 81 line) = ap length (subst (λ i. take i kept ≡ take 81 line) z e) in
-          record { output = []; writes = none (nothing-kept line q); put = put-none out };
-    }
-
-pub last-line : {kept : List ℕ} {k n : ℕ} {room : ℕ} {out out′ : List ℕ} → ByteAsk (length kept) k room → (k ≡ 0 → ⊥) → LineEnded (take k kept) n out out′ → LastGiven kept k n out out′
-last-line {kept} {k} {n} a z w =
-    record {
-      count = w .put .fits;
-      ends = λ line e.
+    module _ {fed : Counts} {kept′ ys : List ℕ} (v : ByteFed (getD block i 0) kept k (take (length out - at) (drop at out)) fed kept′ ys) where
+      pub feeding-next : Feeding block kept₀ k₀ out₀ (i + 1) kept′ (fed .kept) (at + fed .written) (take at out ++ (ys ++ drop (length out - at) (drop at out)))
+      feeding-next =
+          let t = length-take (length out - at) (drop at out) in
+          let d = length-drop at out in
+          let n : length (take at out) ≡ at = length-take-le at out (omega (arith, feeding-room)) in
+          let z : length (drop (length out - at) (drop at out)) ≡ 0 = length-drop (length out - at) (drop at out) ∙ omega arith in
           record {
-            output = w .text ++ lineEnd ∷ [];
-            writes =
-                last (w .text) (λ q. z (reach kept k line (a .within) (a .long) e ∙ ap (λ l. length (take 81 l)) q))
-                (answered-kept line (w .text) (subst (λ l. Answered l (w .text)) e (w .answers)));
-            put = w .put;
-          };
-    }
-
--- ---- what a caller counts
-
-module _ {block kept : List ℕ} {k : ℕ} {out : List ℕ} {done : Progress} {kept′ out′ : List ℕ} (w : BlockFed block kept k out done kept′ out′) where
-  pub fed-count : length out′ ≡ length out → done .written ≡ length (take (done .written) out′)
-  fed-count e = front-long (done .written) out′ (omega (arith, w .count))
-
-pub last-count : {kept : List ℕ} {k n : ℕ} {out out′ : List ℕ} → LastGiven kept k n out out′ → length out′ ≡ length out → n ≡ length (take n out′)
-last-count {kept} {k} {n} {out} {out′} w e = front-long n out′ (omega (arith, w .count))
-
--- each turn reads on
-pub fed-less : (block : List ℕ) {i : ℕ} {kept : List ℕ} {k : ℕ} {out : List ℕ} {done : Progress} {kept′ out′ : List ℕ} →
-    BlockFed (take (length block - i) (drop i block)) kept k out done kept′ out′ → i < length block → 101 ≤ length out → 0 < done .read
-fed-less block {i} w h g = w .some (rw (length-take (length block - i) (drop i block)) (omega (arith, length-drop i block))) g
+            within = v .within;
+            long = omega (arith, v .size, w .long);
+            size = v .size ∙ w .size;
+            room =
+                length-append (take at out) (ys ++ drop (length out - at) (drop at out))
+                ∙ ap (λ m. length (take at out) + m) (length-append ys (drop (length out - at) (drop at out)))
+                ∙ omega (arith, v .room, feeding-room, w .room);
+            fits = w .fits;
+            count = omega (arith, v .count, w .count);
+            most = omega arith;
+            goes-on = λ begun e.
+                let g = w .goes-on begun e in
+                let x = v .goes-on (g .left) (g .keeps) in
+                let more : take (i + 1) block ≡ take i block ++ getD block i 0 ∷ [] = rw (add-one i) (take-suc block i 0 h) in
+                record {
+                  left = x .left;
+                  output = g .output ++ x .output;
+                  writes = subst (λ b. Written begun b (x .left) (g .output ++ x .output)) (sym more) (written-then (g .writes) (x .writes));
+                  keeps = x .keeps;
+                  put = put-both (g .put) (x .put);
+                };
+          }

@@ -1,3 +1,5 @@
 pub mod Fed
 pub mod StreamLaws
 pub mod FedLaws
+pub mod Stream
+pub mod CarryLaws

@@ -1,20 +1,26 @@
 // The lines of a stream of bytes, block by block, and the texts that answer them.
 // Of a line that is not ended yet its first 81 bytes are kept: a longer line is refused for its length alone.
 use sheet_line::answer_line;
-ghost use Rattle.sheet_stream.specs.Fed.{KeptAsk, EndAsk, ByteAsk, ByteKept, LineEnded, ByteFed, BlockFed, LastGiven};
 ghost use lib.ListN.{length};
+ghost use Rattle.sheet_stream.specs.Fed.{KeptAsk, EndAsk, BytesAsk, ByteKept, LineEnded, ByteFed, BytesFed};
+ghost use Rattle.sheet_stream.specs.Stream.{Begun, FeedAsk, BlockFed, LastGiven};
 
-// How many bytes are kept, and how many are written.
+// What is kept of the line that is not ended yet.
+pub struct Stream {
+    pub kept: [u8; 81],
+    pub len: usize,
+}
+
+// The stream behind a block, and how many bytes are to be written for the block.
 pub struct Fed {
-    pub kept: usize,
+    pub stream: Stream,
     pub written: usize,
 }
 
-// How many bytes of a block are read, and the same.
-pub struct Progress {
-    pub read: usize,
-    pub kept: usize,
-    pub written: usize,
+// How many bytes are kept, and how many are to be written.
+struct Counts {
+    kept: usize,
+    written: usize,
 }
 
 // Keeps a byte behind those that are kept, if there is room.
@@ -40,56 +46,79 @@ fn end_line(line: &[u8], out: &mut [u8]) -> usize
 }
 
 // One byte of the input: a line end, or a byte of the line.
-fn feed_byte(b: u8, kept: &mut [u8], k: usize, out: &mut [u8]) -> Fed
-    requires { ⌜ ByteAsk (length (now kept)) k (length (now out)) ⌝ }
+fn feed_byte(b: u8, kept: &mut [u8], k: usize, out: &mut [u8]) -> Counts
+    requires { ⌜ BytesAsk 1 (length (now kept)) k (length (now out)) ⌝ }
     ensures { λ r. ⌜ ByteFed b (now (kept .entry)) k (now (out .entry)) r (now (kept .exit)) (now (out .exit)) ⌝ }
 {
     if b == 10 {
         let written = end_line(&kept[..k], out);
-        return Fed { kept: 0, written };
+        return Counts { kept: 0, written };
     }
     let more = keep_byte(b, kept, k);
-    Fed {
+    Counts {
         kept: more,
         written: 0,
     }
 }
 
-// Reads a block, as far as there is room for one more text and its line end.
-pub fn feed(block: &[u8], kept: &mut [u8], k: usize, out: &mut [u8]) -> Progress
-    requires { ⌜ KeptAsk (length (now kept)) k ⌝ }
-    ensures { λ r. ⌜ BlockFed (now (block .entry)) (now (kept .entry)) k (now (out .entry)) r (now (kept .exit)) (now (out .exit)) ⌝ }
+// All bytes of a block, one after the other.
+fn feed_bytes(block: &[u8], kept: &mut [u8], k: usize, out: &mut [u8]) -> Counts
+    requires { ⌜ BytesAsk (length (now block)) (length (now kept)) k (length (now out)) ⌝ }
+    ensures { λ r. ⌜ BytesFed (now (block .entry)) (now (kept .entry)) k (now (out .entry)) r (now (kept .exit)) (now (out .exit)) ⌝ }
 {
     let mut read = 0;
     let mut held = k;
     let mut written = 0;
     while read < block.len() {
-        if out.len() - written < 101 {
-            return Progress {
-                read,
-                kept: held,
-                written,
-            };
-        }
         let fed = feed_byte(block[read], kept, held, &mut out[written..]);
         held = fed.kept;
         written += fed.written;
         read += 1;
     }
-    Progress {
-        read,
+    Counts {
         kept: held,
         written,
     }
 }
 
-// The line that is left where the input ends.
-pub fn feed_end(kept: &[u8], k: usize, out: &mut [u8]) -> usize
-    requires { ⌜ ByteAsk (length (now kept)) k (length (now out)) ⌝ }
-    ensures { λ r. ⌜ LastGiven (now (kept .entry)) k r (now (out .entry)) (now (out .exit)) ⌝ }
-{
-    if k == 0 {
-        return 0;
+impl Stream {
+    // Before any input.
+    pub fn new() -> Stream
+        ensures { λ r. ⌜ Begun r ⌝ }
+    {
+        Stream {
+            kept: [0; 81],
+            len: 0,
+        }
     }
-    end_line(&kept[..k], out)
+
+    // Takes a block of the input; the texts that answer the lines ended in it, each with a line end, stand at the front of the buffer.
+    pub fn feed(self, block: &[u8], out: &mut [u8]) -> Fed
+        requires { ⌜ FeedAsk self (length (now block)) (length (now out)) ⌝ }
+        ensures { λ r. ⌜ BlockFed self (now (block .entry)) (now (out .entry)) r (now (out .exit)) ⌝ }
+    {
+        let mut kept = self.kept;
+        let len = self.len;
+        let fed = feed_bytes(block, &mut kept, len, out);
+        Fed {
+            stream: Stream {
+                kept,
+                len: fed.kept,
+            },
+            written: fed.written,
+        }
+    }
+
+    // The input has ended: the text that answers the line it leaves without a line end, if that is not empty.
+    pub fn end(self, out: &mut [u8]) -> usize
+        requires { ⌜ FeedAsk self 1 (length (now out)) ⌝ }
+        ensures { λ r. ⌜ LastGiven self r (now (out .entry)) (now (out .exit)) ⌝ }
+    {
+        let kept = self.kept;
+        let len = self.len;
+        if len == 0 {
+            return 0;
+        }
+        end_line(&kept[..len], out)
+    }
 }

@@ -2,21 +2,28 @@
 use Prim.Native.Nat.{_≤_}
 use mathlib.Core.Path.{_≡_}
 use lib.ListN.{length}
+use Rattle.sheet_stream.specs.Stream.{KeptFits}
 use borrow.Author.Needs.{needs}
 use Rattle.sheet.proofs.answer_all.Statement.{statement}
 use Rattle.sheet.proofs.answer_all.Tie as tie
 
 abbrev Inv-loop : tie.InvT-loop
-Inv-loop kept₀ turns₀ k₀ kept turns k = (81 ≤ length kept) × (length kept ≡ length kept₀) × (k ≤ 81)
+Inv-loop out₀ turns₀ stream₀ out turns stream = KeptFits stream × (413696 ≤ length out) × (length out ≡ length out₀)
 
 abbrev μ-loop : tie.MeasureT-loop
-μ-loop kept₀ turns₀ k₀ kept turns k = turns
+μ-loop out₀ turns₀ stream₀ out turns stream = turns
+
+new-requires : tie.Need-new-requires Inv-loop μ-loop
+new-requires c κs = search needs
 
 loop-holds : tie.Need-loop-holds Inv-loop μ-loop
 loop-holds c = search needs
 
-answer-some-requires : tie.Need-answer-some-requires Inv-loop μ-loop
-answer-some-requires c κs = search needs
+answer-block-requires : tie.Need-answer-block-requires Inv-loop μ-loop
+answer-block-requires c κs = search needs
+
+enum-told : tie.Need-enum-told Inv-loop μ-loop
+enum-told c = search needs
 
 same-length : tie.Need-same-length Inv-loop μ-loop
 same-length c = search needs
@@ -45,8 +52,10 @@ answer-all-spec =
     (tie.spec
     Inv-loop
     μ-loop
+    new-requires
     loop-holds
-    answer-some-requires
+    answer-block-requires
+    enum-told
     same-length
     returns
     sub-turns

@@ -1,5 +1,7 @@
 -- `sheet::main` is safe and ends. Assumes nothing.
-use Rattle.sheet_stream.specs.FedLaws.{last-count}
+use mathlib.Core.Path.{sym}
+use native.Mathlib.Omega.{arith}
+use lib.Seq.{length-take-le}
 use borrow.Author.Needs.{needs}
 use Rattle.sheet.proofs.main.Statement.{statement}
 use Rattle.sheet.proofs.main.Tie as tie
@@ -13,29 +15,29 @@ slice-aggregate-answer-all c = search needs
 answer-all-requires : tie.Need-answer-all-requires
 answer-all-requires c κs = search needs
 
-room-requires-2 : tie.Need-room-requires-2
-room-requires-2 c κs = search needs
+enum-told : tie.Need-enum-told
+enum-told c = search needs
 
-slice-aggregate-feed-end : tie.Need-slice-aggregate-feed-end
-slice-aggregate-feed-end c = search needs
+returns : tie.Need-returns
+returns c = search needs
 
-slice-aggregate-feed-end-2 : tie.Need-slice-aggregate-feed-end-2
-slice-aggregate-feed-end-2 c = search needs
+slice-aggregate-end : tie.Need-slice-aggregate-end
+slice-aggregate-end c = search needs
 
-feed-end-requires : tie.Need-feed-end-requires
-feed-end-requires c κs = search needs
+end-requires : tie.Need-end-requires
+end-requires c κs = search needs
 
 array-share-prefix-out : tie.Need-array-share-prefix-out
 array-share-prefix-out c = search needs
 
-slice-aggregate-write-all : tie.Need-slice-aggregate-write-all
-slice-aggregate-write-all c = last-count (c .before .before .feed-end .ensures) (c .before .before .feed-end .kept .1 .1 .0)
+slice-aggregate-write-out : tie.Need-slice-aggregate-write-out
+slice-aggregate-write-out c = sym (length-take-le _ _ (omega arith))
 
-write-all-requires : tie.Need-write-all-requires
-write-all-requires c κs = search needs
+write-out-requires : tie.Need-write-out-requires
+write-out-requires c κs = search needs
 
-returns : tie.Need-returns
-returns c = search needs
+returns-2 : tie.Need-returns-2
+returns-2 c = search needs
 
 pub main-spec : {M : Type 1} → statement M
 main-spec =
@@ -44,11 +46,11 @@ main-spec =
     room-requires
     slice-aggregate-answer-all
     answer-all-requires
-    room-requires-2
-    slice-aggregate-feed-end
-    slice-aggregate-feed-end-2
-    feed-end-requires
+    enum-told
+    returns
+    slice-aggregate-end
+    end-requires
     array-share-prefix-out
-    slice-aggregate-write-all
-    write-all-requires
-    returns)
+    slice-aggregate-write-out
+    write-out-requires
+    returns-2)
