@@ -8,14 +8,9 @@ use Rattle.rules.specs.Check.{refusal, countChecks}
 use Rattle.rules.specs.Number.{capped}
 use Rattle.number.specs.NumberLaws.{number-order, number-more, number-repeat}
 use Rattle.number.specs.CapLaws.{capped-rising, capped-steady}
-use Rattle.engine.specs.declared.Counted.{Counted}
 use Rattle.engine.specs.declared.Counted.the-variants.{Count}
-use Rattle.engine.specs.Answer.{counted}
+use Rattle.engine.specs.Answer.{counted, countAnswer}
 use Rattle.corollaries.specs.Acceptance.{count-accepted, order-passes, less-passes}
-
--- The answer of Count, as its contract has it.
-abbrev pub countAnswer : Puzzle → List ℕ → ℕ → Counted
-countAnswer p ms cap = counted (refusal (countChecks p ms)) (capped cap p ms)
 
 -- What is not refused is counted.
 pub answer-counted : (p : Puzzle) (ms : List ℕ) (cap : ℕ) → refusal (countChecks p ms) ≡ 0 → countAnswer p ms cap ≡ Count (capped cap p ms)

@@ -18,10 +18,13 @@ solvedAs zero unsolvable = Unsolvable
 solvedAs zero unique = Unique
 solvedAs zero multiple = Multiple
 
--- The answer is the verdict on the number of grids. The cells hold one of these grids, which of them is left open; on a refusal, and if there is none,
--- they are as they were.
+-- The answer of Solve: the number that the puzzle, its marks or a cell buffer of this length are refused by, else the verdict on the number of grids.
+abbrev pub solveAnswer : Puzzle → List ℕ → ℕ → Solved
+solveAnswer p ms len = solvedAs (refusal (solveChecks p ms len)) (verdictOf (number p ms))
+
+-- The answer is that of Solve. The cells hold one of the grids, which of them is left open; on a refusal, and if there is none, they are as they were.
 pub record SolveGiven (p : Puzzle) (ms : List ℕ) (answer : Solved) (cells cells′ : List ℕ) : Type 0 where
-  pub answer-is : answer ≡ solvedAs (refusal (solveChecks p ms (length cells))) (verdictOf (number p ms))
+  pub answer-is : answer ≡ solveAnswer p ms (length cells)
   pub untouched : (refusal (solveChecks p ms (length cells)) ≡ 0 → ⊥) ⊎ (number p ms ≡ 0) → cells′ ≡ cells
   pub written : refusal (solveChecks p ms (length cells)) ≡ 0 → 0 < number p ms → Solution p ms cells′
 

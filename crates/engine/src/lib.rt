@@ -9,7 +9,7 @@ ghost use lib.ListN.{length};
 ghost use Rattle.rules.specs.Check.{refusal, countChecks, solveChecks};
 ghost use Rattle.rules.specs.Number.{capped, verdictOf};
 ghost use Rattle.puzzle.specs.Given.{puzzle};
-ghost use Rattle.engine.specs.Answer.{counted, CountAsk};
+ghost use Rattle.engine.specs.Answer.{countAnswer, CountAsk};
 ghost use Rattle.engine.specs.Solve.{solvedAs, SolveAsk, Found, SolveGiven};
 
 pub enum Counted {
@@ -51,7 +51,7 @@ fn count_grids(n: usize, rows: &[u8], columns: &[u8], marks: &[u8], cap: u64) ->
 
 // The number of grids that keep the puzzle and the marks, at most the cap.
 pub fn count(size: usize, rows: &[u8], columns: &[u8], marks: &[u8], cap: u64) -> Counted
-    ensures { λ r. ⌜ r ≡ counted (refusal (countChecks (puzzle size (now (rows .entry)) (now (columns .entry))) (marksOf (now (marks .entry))))) (capped cap (puzzle size (now (rows .entry)) (now (columns .entry))) (marksOf (now (marks .entry)))) ⌝ }
+    ensures { λ r. ⌜ r ≡ countAnswer (puzzle size (now (rows .entry)) (now (columns .entry))) (marksOf (now (marks .entry))) cap ⌝ }
 {
     let k = count_refusal(size, rows, columns, marks);
     if k != 0 {
@@ -98,7 +98,8 @@ fn verdict(found: u64) -> Solved
 
 // The verdict, and one of the grids if there is one.
 pub fn solve(size: usize, rows: &[u8], columns: &[u8], marks: &[u8], cells: &mut [u8]) -> Solved
-    ensures { λ r. ⌜ SolveGiven (puzzle size (now (rows .entry)) (now (columns .entry))) (marksOf (now (marks .entry))) r (now (cells .entry)) (now (cells .exit)) ⌝ }
+    ensures { λ r. ⌜ SolveGiven (puzzle size (now (rows .entry)) (now (columns .entry))) (marksOf (now (marks .entry)))
+        r (now (cells .entry)) (now (cells .exit)) ⌝ }
 {
     let k = solve_refusal(size, rows, columns, marks, cells.len());
     if k != 0 {

@@ -7,11 +7,9 @@ use mathlib.Core.List.{List, [], _∷_}
 use lib.ListN.{length}
 use Rattle.rules.specs.Grid.{Puzzle}
 use Rattle.rules.specs.Mark.{marksOf}
-use Rattle.rules.specs.Check.{refusal, countChecks}
-use Rattle.rules.specs.Number.{capped}
 use Rattle.puzzle.specs.Given.{puzzle}
 use Rattle.engine.specs.declared.Counted.{Counted}
-use Rattle.engine.specs.Answer.{counted}
+use Rattle.engine.specs.Answer.{countAnswer}
 use Rattle.doppelblock.specs.Number.{countNumber, countAfter, SolveNumbered}
 use Rattle.doppelblock.specs.Entries.{TableNumbered}
 use Rattle.replay_records.specs.Fields.{field, sizeOf, numberFrom}
@@ -42,7 +40,7 @@ CountAs answer old xs = CountRecorded (countNumber answer) (countAfter answer ol
 
 -- The record has the count of its puzzle and marks under a cap.
 abbrev pub CountFrom : ℕ → ℕ → List ℕ → Type 0
-CountFrom cap old xs = CountAs (counted (refusal (countChecks (puzzleOf xs) (marksIn xs))) (capped cap (puzzleOf xs) (marksIn xs))) old xs
+CountFrom cap old xs = CountAs (countAnswer (puzzleOf xs) (marksIn xs) cap) old xs
 
 -- A record of a count is right, and its numbers have eight bytes.
 pub record CountAgrees (xs : List ℕ) : Type 0 where

@@ -8,10 +8,8 @@ use lib.Dec.{eqb}
 use lib.ListN.{length, take}
 use borrow.Author.Tests.{eq-eqb, eqb-true, not-true, not-false}
 use Rattle.rules.specs.Mark.{marksOf}
-use Rattle.rules.specs.Check.{refusal, countChecks}
-use Rattle.rules.specs.Number.{capped}
 use Rattle.puzzle.specs.Given.{puzzle}
-use Rattle.engine.specs.Answer.{counted}
+use Rattle.engine.specs.Answer.{countAnswer}
 use Rattle.doppelblock.specs.Number.{CountGiven, SolveNumbered}
 use Rattle.doppelblock.specs.Entries.{TableNumbered}
 use Rattle.replay_records.specs.Fields.{field, sizeOf, numberFrom}
@@ -48,11 +46,7 @@ module _ (xs : List ℕ) where
   pub count-called :
       (size number cap old new : ℕ) (rows columns marks : List ℕ) (b : Bool) → size ≡ sizeOf xs → rows ≡ field xs 1 → columns ≡ field xs 2
       → marks ≡ field xs 3
-      → CountGiven
-      (counted (refusal (countChecks (puzzle size rows columns) (marksOf marks))) (capped cap (puzzle size rows columns) (marksOf marks)))
-      number
-      old
-      new
+      → CountGiven (countAnswer (puzzle size rows columns) (marksOf marks) cap) number old new
       → Says b (CountRecorded number new xs) → Says b (CountFrom cap old xs)
   count-called size number cap old new rows columns marks b s r c m g h = rw (← s, ← r, ← c, ← m, ← g .number-is, ← g .count-is) h
 
