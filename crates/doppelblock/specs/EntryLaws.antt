@@ -1,8 +1,7 @@
--- Entries written byte by byte, and the answer of Candidates from the engine's. Assumes nothing.
-use Prim.Native.Nat.{ℕ, suc, _+_, _*_, _/_, _%_, _≤_, _<_}
+-- Entries written byte by byte, and the answer of Candidates over bytes from that over lent entries. Assumes nothing.
+use Prim.Native.Nat.{ℕ, suc, _+_, _*_, _/_, _%_, _≤_, _<_, min}
 use mathlib.Core.Path.{_≡_, refl, sym, ap, ap₂, _∙_, subst}
-use mathlib.Core.Bool.{Bool, true, false, true≢false}
-use mathlib.Core.Logic.{inl, inr}
+use mathlib.Core.Logic.{inl, inr, ⊎-elim}
 use mathlib.Core.List.{List, [], _∷_}
 use native.Mathlib.Omega.{arith}
 use native.Mathlib.Decide.{ℕ-discrete}
@@ -11,11 +10,16 @@ use lib.ListN.{length, getD, set, length-set}
 use lib.Seq.{getD-set-same, getD-set-other}
 use borrow.Author.Tests.{eq-eqb, ne-eqb}
 use Rattle.rules.specs.Grid.{Puzzle}
-use Rattle.rules.specs.Check.{refusal, solveChecks}
+use Rattle.rules.specs.Check.{refusal, countChecks, solveChecks}
+use Rattle.puzzle.specs.PuzzleLaws.{accepted-size}
+use Rattle.engine.specs.CountLaws.{count-puzzle}
 use Rattle.engine.specs.Solve.{SolveAsk}
-use Rattle.engine.specs.SolveLaws.{solve-room, solve-size}
-use Rattle.candidates.specs.Remaining.{WrittenTable, Tabled}
-use Rattle.doppelblock.specs.Entries.{entryCount, entriesOf, BytesTabled, TableNumbered}
+use Rattle.engine.specs.SolveLaws.{refused-count, refused-7, refused-0, solve-room, solve-size}
+use Rattle.candidates.specs.declared.Outcome.{Outcome}
+use Rattle.candidates.specs.declared.Outcome.the-variants.{Refused, Contradicted, Written}
+use Rattle.candidates.specs.Remaining.{WrittenTable, TableGiven}
+use Rattle.doppelblock.specs.Number.{tableNumber}
+use Rattle.doppelblock.specs.Entries.{pairs, entriesOf, entryCount, mostLent, TableNumbered}
 
 -- ---- entry by entry
 
@@ -52,22 +56,31 @@ filled-next {es} {bs₀} {bs} i e f h q =
       ];
     }
 
-entries-ext : (bs es : List ℕ) → length bs ≡ 2 * length es →
-    ((j : ℕ) → j < length es → getD bs (2 * j) 0 * 256 + getD bs (2 * j + 1) 0 ≡ getD es j 0) → entriesOf bs ≡ es
-unfolding entriesOf
-entries-ext [] [] h e = refl
-entries-ext [] (x ∷ es) h e = absurd (omega arith)
-entries-ext (a ∷ []) [] h e = absurd (omega arith)
-entries-ext (a ∷ []) (x ∷ es) h e = absurd (omega arith)
-entries-ext (a ∷ (b ∷ bs)) [] h e = absurd (omega arith)
-entries-ext (a ∷ (b ∷ bs)) (x ∷ es) h e =
-    ap₂ _∷_ (e 0 (omega arith)) (entries-ext bs es (omega arith) (λ j l.
+pairs-ext : (bs es : List ℕ) → length bs ≡ 2 * length es →
+    ((j : ℕ) → j < length es → getD bs (2 * j) 0 * 256 + getD bs (2 * j + 1) 0 ≡ getD es j 0) → pairs bs ≡ es
+unfolding pairs
+pairs-ext [] [] h e = refl
+pairs-ext [] (x ∷ es) h e = absurd (omega arith)
+pairs-ext (a ∷ []) [] h e = absurd (omega arith)
+pairs-ext (a ∷ []) (x ∷ es) h e = absurd (omega arith)
+pairs-ext (a ∷ (b ∷ bs)) [] h e = absurd (omega arith)
+pairs-ext (a ∷ (b ∷ bs)) (x ∷ es) h e =
+    ap₂ _∷_ (e 0 (omega arith)) (pairs-ext bs es (omega arith) (λ j l.
     let p : 2 * suc j ≡ suc (suc (2 * j)) = omega arith in
     let q : suc (suc (2 * j)) + 1 ≡ suc (suc (2 * j + 1)) = omega arith in
     rw (p, q) at (e (suc j) (omega arith))))
 
+pairs-length : (bs : List ℕ) → length (pairs bs) ≡ length bs / 2
+unfolding pairs
+pairs-length [] = refl
+pairs-length (a ∷ []) = refl
+pairs-length (a ∷ (b ∷ bs)) = omega (arith, pairs-length bs)
+
 pub filled-end : {es bs₀ bs : List ℕ} {i : ℕ} → Filled es bs₀ bs i → length es ≤ i → length bs₀ ≡ 2 * length es → entriesOf bs ≡ es
-filled-end {es} {bs₀} {bs} f h e = entries-ext bs es (f .size ∙ e) (λ j l. f .are j (omega arith))
+unfolding entriesOf
+filled-end {es} {bs₀} {bs} f h e =
+    let long : length bs ≡ 2 * length es = f .size ∙ e in
+    rw (eq-eqb (length bs % 2) 0 (omega arith)) (pairs-ext bs es long (λ j l. f .are j (omega arith)))
 
 -- ---- room
 
@@ -77,45 +90,91 @@ count-even len e = rw (eq-eqb (len % 2) 0 e)
 pub count-odd : (len : ℕ) → (len % 2 ≡ 0 → ⊥) → 0 ≡ entryCount len
 count-odd len e = rw (ne-eqb (len % 2) 0 e)
 
--- a table that is not refused has two bytes for each cell
-pub entry-square : {p : Puzzle} {ms : List ℕ} {k : ℕ} → SolveAsk p ms k → p .size * p .size ≤ 81
-entry-square a = solve-size a .square
-
-pub entry-ask : {p : Puzzle} {ms : List ℕ} {j : ℕ} → SolveAsk p ms j → (k : ℕ) → k ≡ p .size * p .size → SolveAsk p ms k
-entry-ask {p} {ms} a k e = record { accepted = ap (λ x. refusal (solveChecks p ms x)) (e ∙ sym (solve-room a)) ∙ a .accepted }
-
-pub entry-room : {p : Puzzle} {ms : List ℕ} (len : ℕ) → SolveAsk p ms (entryCount len) → len ≡ 2 * (p .size * p .size)
-entry-room {p} {ms} len a =
-    elim (ℕ-discrete (len % 2) 0) [
-      | yes z ↦ let e : len / 2 ≡ p .size * p .size = count-even len z ∙ solve-room a in omega arith
-      | no z ↦ let e : 0 ≡ p .size * p .size = count-odd len z ∙ solve-room a in
-          absurd (omega (arith, e, solve-size a .low, positive (p .size) (solve-size a .low)))
+pub entries-length : (bs : List ℕ) → length (entriesOf bs) ≡ entryCount (length bs)
+unfolding entriesOf
+entries-length bs =
+    elim (ℕ-discrete (length bs % 2) 0) [
+      | yes z ↦ rw (eq-eqb (length bs % 2) 0 z) (pairs-length bs)
+      | no z ↦ rw (ne-eqb (length bs % 2) 0 z)
     ]
-  where
-    positive : (n : ℕ) → 2 ≤ n → 4 ≤ n * n
-    positive n h = mul-le-mul h h
+
+-- a list with entries has two bytes for each
+entries-bytes : (bs : List ℕ) → 0 < length (entriesOf bs) → length bs ≡ 2 * length (entriesOf bs)
+entries-bytes bs h =
+    elim (ℕ-discrete (length bs % 2) 0) [
+      | yes z ↦ let e = count-even (length bs) z in omega (arith, entries-length bs)
+      | no z ↦ let e = count-odd (length bs) z in absurd (omega (arith, entries-length bs))
+    ]
+
+-- ---- the most entries that are lent are refused as any larger number is
+
+module _ (p : Puzzle) (ms : List ℕ) where
+  accepted-square : refusal (countChecks p ms) ≡ 0 → p .size * p .size ≤ 81
+  accepted-square z = accepted-size p (count-puzzle (record { accepted = z })) .square
+
+  lent-refusal : (k : ℕ) → refusal (solveChecks p ms (min k mostLent)) ≡ refusal (solveChecks p ms k)
+  lent-refusal k =
+      let d : ℕ = refusal (countChecks p ms) in
+      elim (ℕ-discrete d 0) [
+        | yes z ↦ let s = accepted-square z in
+            elim (ℕ-discrete k (p .size * p .size)) [
+              | yes e ↦ sym (refused-0 p ms (min k mostLent) d refl z (omega arith)) ∙ refused-0 p ms k d refl z e
+              | no e ↦ sym (refused-7 p ms (min k mostLent) d refl z (λ q. e (omega arith))) ∙ refused-7 p ms k d refl z e
+            ]
+        | no z ↦ sym (refused-count p ms (min k mostLent) d refl z) ∙ refused-count p ms k d refl z
+      ]
 
 -- ---- the answer
 
-pub bytes-none : {p : Puzzle} {ms es es′ bs : List ℕ} {b : Bool} → Tabled p ms b es es′ → b ≡ false → BytesTabled p ms false bs bs
-bytes-none t e = record { done = λ x. absurd (true≢false (sym x)); none = λ _. (t .none e .0, refl) }
+-- Candidates answered over lent entries: as many as the bytes have, up to the most.
+module _ {p : Puzzle} {ms es es′ : List ℕ} {a : Outcome} (bs : List ℕ) (lent : length es ≡ min (length (entriesOf bs)) mostLent) (g : TableGiven p ms a es es′) where
+  same : refusal (solveChecks p ms (length es)) ≡ refusal (solveChecks p ms (length (entriesOf bs)))
+  same = ap (λ k. refusal (solveChecks p ms k)) lent ∙ lent-refusal p ms (length (entriesOf bs))
 
-pub bytes-done : {p : Puzzle} {ms es es′ bs bs′ : List ℕ} {b : Bool} → Tabled p ms b es es′ → b ≡ true → entriesOf bs′ ≡ es′ → BytesTabled p ms true bs bs′
-bytes-done {p} {ms} t e q = record { done = λ _. subst (WrittenTable p ms) (sym q) (t .done e); none = λ x. absurd (true≢false x) }
+  -- what is not written leaves the bytes
+  unwritten : {k : ℕ} → (a ≡ Written → ⊥) → k ≡ tableNumber a → TableNumbered p ms k bs bs
+  unwritten n e =
+      record {
+        answer = a;
+        given = record {
+          refused = λ x. (g .refused (λ q. x (sym same ∙ q)) .0 ∙ ap Refused same, refl);
+          answered = λ x. ⊎-elim (λ w. absurd (n (w .0))) (λ w. inr (w .0, w .1, refl)) (g .answered (same ∙ x));
+        };
+        number-is = e;
+        untouched = λ _. refl;
+      }
 
-module _ (p : Puzzle) (ms bs : List ℕ) (j k : ℕ) (i : j ≡ entryCount (length bs)) (e : k ≡ refusal (solveChecks p ms j)) where
-  due : k ≡ refusal (solveChecks p ms (entryCount (length bs)))
-  due = e ∙ ap (λ x. refusal (solveChecks p ms x)) i
+  pub numbered-refused : {k : ℕ} → a ≡ Refused k → TableNumbered p ms k bs bs
+  numbered-refused e = unwritten (λ w. let z : _≡_ {A = ℕ} 0 1 = cc in omega arith) (sym (ap tableNumber e))
 
-  pub table-ask : k ≡ 0 → SolveAsk p ms (entryCount (length bs))
-  table-ask z = record { accepted = sym due ∙ z }
+  pub numbered-none : a ≡ Contradicted → TableNumbered p ms 100 bs bs
+  numbered-none e = unwritten (λ w. let z : _≡_ {A = ℕ} 0 1 = cc in omega arith) (sym (ap tableNumber e))
 
-  pub numbered-refused : (k ≡ 0 → ⊥) → TableNumbered p ms k bs bs
-  numbered-refused z = record { refused = λ _. (due, refl); answered = λ q. absurd (z (due ∙ q)) }
+  module _ (e : a ≡ Written) where
+    asked : SolveAsk p ms (length es)
+    asked =
+        elim (ℕ-discrete (refusal (solveChecks p ms (length es))) 0) [
+          | yes z ↦ record { accepted = z }
+          | no z ↦ let w = g .refused z .0 in let z : _≡_ {A = ℕ} 0 1 = cc in absurd (omega arith)
+        ]
 
-  module _ (z : k ≡ 0) {bs′ : List ℕ} {b : Bool} (t : BytesTabled p ms b bs bs′) where
-    pub numbered-written : b ≡ true → TableNumbered p ms 0 bs bs′
-    numbered-written q = record { refused = λ x. absurd (x (sym due ∙ z)); answered = λ _. inl (refl, t .done q) }
+    -- the bytes have room for the entries
+    pub written-room : length es′ ≡ length es → length bs ≡ 2 * length es′
+    written-room l =
+        let s = solve-size asked in
+        let some : 4 ≤ p .size * p .size = mul-le-mul (s .low) (s .low) in
+        let all : length es ≡ length (entriesOf bs) = omega (arith, lent, solve-room asked, s .square, some) in
+        omega (arith, all, l, entries-bytes bs (omega (arith, all, solve-room asked, some)))
 
-    pub numbered-none : b ≡ false → TableNumbered p ms 100 bs bs′
-    numbered-none q = record { refused = λ x. absurd (x (sym due ∙ z)); answered = λ _. let u = t .none q in inr (refl, u .0, u .1) }
+    pub numbered-written : {bs′ : List ℕ} → entriesOf bs′ ≡ es′ → TableNumbered p ms 0 bs bs′
+    numbered-written q =
+        record {
+          answer = a;
+          given = record {
+            refused = λ x. absurd (x (sym same ∙ asked .accepted));
+            answered = λ x. ⊎-elim (λ w. inl (w .0, subst (WrittenTable p ms) (sym q) (w .1)))
+                (λ w. let c = w .0 in let z : _≡_ {A = ℕ} 0 1 = cc in absurd (omega arith)) (g .answered (same ∙ x));
+          };
+          number-is = sym (ap tableNumber e);
+          untouched = λ x. absurd (x refl);
+        }

@@ -13,6 +13,9 @@ use Rattle.engine.specs.declared.Solved.{Solved}
 use Rattle.engine.specs.declared.Solved.the-variants.{Unsolvable, Unique, Multiple}
 use Rattle.engine.specs.declared.Solved.the-variants as verdicts
 use Rattle.engine.specs.Solve.{SolveGiven}
+use Rattle.candidates.specs.declared.Outcome.{Outcome}
+use Rattle.candidates.specs.declared.Outcome.the-variants.{Contradicted, Written}
+use Rattle.candidates.specs.declared.Outcome.the-variants as tables
 
 -- The number and the two target slices are as a definition says.
 pub record SumsGiven (given : Sums) (number : ℕ) (rows columns : List ℕ) : Type 0 where
@@ -52,3 +55,9 @@ pub record SolveNumbered (p : Puzzle) (ms : List ℕ) (number : ℕ) (cells cell
   pub answer : Solved
   pub given : SolveGiven p ms answer cells cells′
   pub number-is : number ≡ solveNumber answer
+
+-- The number of each answer of Candidates.
+abbrev pub tableNumber : Outcome → ℕ
+tableNumber (tables.Refused k) = k
+tableNumber Written = 0
+tableNumber Contradicted = 100

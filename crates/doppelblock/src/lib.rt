@@ -1,21 +1,17 @@
 // What a host links: numbers and byte slices only. An answer is a number: that of a refusal, or one of those below.
-use candidates::write_table;
+use candidates::Outcome;
 use engine::Counted;
 use engine::Solved;
-use engine::solve_refusal;
 use marking::Marked;
 ghost use mathlib.Core.Path.{_≡_};
 ghost use Rattle.rules.specs.Sums.{targetSums};
 ghost use Rattle.puzzle.specs.Given.{puzzle};
 ghost use Rattle.marking.specs.Answer.{markSheet};
 ghost use Rattle.rules.specs.Mark.{marksOf};
-ghost use Rattle.rules.specs.Check.{refusal, countChecks};
-ghost use Rattle.rules.specs.Number.{capped};
-ghost use Rattle.engine.specs.Answer.{counted};
-ghost use Rattle.engine.specs.Solve.{SolveAsk};
-ghost use Prim.Native.Nat.{_*_};
+ghost use Rattle.engine.specs.Answer.{countAnswer};
+ghost use Prim.Native.Nat.{_*_, min};
 ghost use lib.ListN.{length};
-ghost use Rattle.doppelblock.specs.Entries.{entryCount, entriesOf, BytesTabled, TableNumbered};
+ghost use Rattle.doppelblock.specs.Entries.{entriesOf, entryCount, mostLent, TableNumbered};
 ghost use Rattle.doppelblock.specs.Number.{SumsGiven, sheetNumber, CountGiven, solveNumber, SolveNumbered};
 
 pub struct Answer {
@@ -32,6 +28,8 @@ impl Answer {
     pub const UNIQUE: u8 = 101;
 
     pub const MULTIPLE: u8 = 102;
+
+    pub const WRITTEN: u8 = 0;
 
     pub const CONTRADICTED: u8 = 100;
 }
@@ -82,7 +80,8 @@ pub extern "C" fn doppelblock_count(
     cap: u64,
     count: &mut u64,
 ) -> u8
-    ensures { λ r. ⌜ CountGiven (counted (refusal (countChecks (puzzle size (now (rows .entry)) (now (columns .entry))) (marksOf (now (marks .entry))))) (capped cap (puzzle size (now (rows .entry)) (now (columns .entry))) (marksOf (now (marks .entry))))) r (now (count .entry)) (now (count .exit)) ⌝ }
+    ensures { λ r. ⌜ CountGiven (countAnswer (puzzle size (now (rows .entry)) (now (columns .entry))) (marksOf (now (marks .entry))) cap)
+        r (now (count .entry)) (now (count .exit)) ⌝ }
 {
     match engine::count(size, rows, columns, marks, cap) {
         Counted::Refused(k) => k,
@@ -113,12 +112,13 @@ pub extern "C" fn doppelblock_solve(
     marks: &[u8],
     cells: &mut [u8],
 ) -> u8
-    ensures { λ r. ⌜ SolveNumbered (puzzle size (now (rows .entry)) (now (columns .entry))) (marksOf (now (marks .entry))) r (now (cells .entry)) (now (cells .exit)) ⌝ }
+    ensures { λ r. ⌜ SolveNumbered (puzzle size (now (rows .entry)) (now (columns .entry))) (marksOf (now (marks .entry)))
+        r (now (cells .entry)) (now (cells .exit)) ⌝ }
 {
     solve_number(engine::solve(size, rows, columns, marks, cells))
 }
 
-// How many entries of two bytes a table has room for; with a byte left over, none.
+// How many entries of two bytes a table has; with a byte left over, none.
 fn entry_count(len: usize) -> usize
     ensures { λ r. ⌜ r ≡ entryCount len ⌝ }
 {
@@ -139,36 +139,41 @@ fn write_entries(entries: &[u16], bytes: &mut [u8])
     }
 }
 
-// Writes the candidates of what is not refused, by way of entries; false if a cell is left without any.
-fn write_both(
-    n: usize,
+// One entry more than the largest table has.
+const MOST_LENT: usize = 82;
+
+// How many entries are lent for a table: as many as it has, up to the most.
+fn lent_count(len: usize) -> usize
+    ensures { λ r. ⌜ r ≡ min (entryCount len) mostLent ⌝ }
+{
+    let count = entry_count(len);
+    if count < MOST_LENT { count } else { MOST_LENT }
+}
+
+// Candidates by way of lent entries, which become the bytes of the table where they are written.
+fn candidates_by_entries(
+    size: usize,
     rows: &[u8],
     columns: &[u8],
     marks: &[u8],
     entries: &mut [u16],
     table: &mut [u8],
-) -> bool
-    requires { ⌜ SolveAsk (puzzle n (now rows) (now columns)) (marksOf (now marks)) (length (now entries)) × (length (now table) ≡ 2 * length (now entries)) ⌝ }
-    ensures { λ r. ⌜ BytesTabled (puzzle n (now (rows .entry)) (now (columns .entry))) (marksOf (now (marks .entry))) r (now (table .entry)) (now (table .exit)) ⌝ }
+) -> u8
+    requires { ⌜ length (now entries) ≡ min (length (entriesOf (now table))) mostLent ⌝ }
+    ensures { λ r. ⌜ TableNumbered (puzzle size (now (rows .entry)) (now (columns .entry))) (marksOf (now (marks .entry)))
+        r (now (table .entry)) (now (table .exit)) ⌝ }
 {
-    if !write_table(n, rows, columns, marks, entries) {
-        return false;
+    match candidates::candidates(size, rows, columns, marks, entries) {
+        Outcome::Refused(k) => k,
+        Outcome::Contradicted => Answer::CONTRADICTED,
+        Outcome::Written => {
+            write_entries(entries, table);
+            Answer::WRITTEN
+        }
     }
-    write_entries(entries, table);
-    true
 }
 
-// The same, with entries of its own.
-fn write_bytes(n: usize, rows: &[u8], columns: &[u8], marks: &[u8], table: &mut [u8]) -> bool
-    requires { ⌜ SolveAsk (puzzle n (now rows) (now columns)) (marksOf (now marks)) (entryCount (length (now table))) ⌝ }
-    ensures { λ r. ⌜ BytesTabled (puzzle n (now (rows .entry)) (now (columns .entry))) (marksOf (now (marks .entry))) r (now (table .entry)) (now (table .exit)) ⌝ }
-{
-    let count = n * n;
-    let mut entries = [0u16; 81];
-    write_both(n, rows, columns, marks, &mut entries[..count], table)
-}
-
-// 0 where the table holds the candidates that remain, CONTRADICTED where a cell has none, or the number of the refusal.
+// WRITTEN where the table holds the candidates that remain, CONTRADICTED where a cell has none, or the number of the refusal.
 #[no_mangle]
 pub extern "C" fn doppelblock_candidates(
     size: usize,
@@ -177,15 +182,10 @@ pub extern "C" fn doppelblock_candidates(
     marks: &[u8],
     table: &mut [u8],
 ) -> u8
-    ensures { λ r. ⌜ TableNumbered (puzzle size (now (rows .entry)) (now (columns .entry))) (marksOf (now (marks .entry))) r (now (table .entry)) (now (table .exit)) ⌝ }
+    ensures { λ r. ⌜ TableNumbered (puzzle size (now (rows .entry)) (now (columns .entry))) (marksOf (now (marks .entry)))
+        r (now (table .entry)) (now (table .exit)) ⌝ }
 {
-    let k = solve_refusal(size, rows, columns, marks, entry_count(table.len()));
-    if k != 0 {
-        return k;
-    }
-    if write_bytes(size, rows, columns, marks, table) {
-        0
-    } else {
-        Answer::CONTRADICTED
-    }
+    let count = lent_count(table.len());
+    let mut entries = [0u16; MOST_LENT];
+    candidates_by_entries(size, rows, columns, marks, &mut entries[..count], table)
 }
