@@ -6,6 +6,7 @@ use mathlib.Core.Bool.{Bool, true, false, _&&_, _||_}
 use mathlib.Core.Logic.{_≢_, _⊎_}
 use mathlib.Core.List.{List, List·Memᴰ}
 use lib.ListN.{length}
+use Rattle.tally.specs.Tally.{any}
 use Rattle.rules.specs.Grid.{Puzzle, cell}
 use Rattle.rules.specs.Mark.{rejects, markRow, markColumn, markValue}
 use Rattle.rules.specs.Check.{refusal, solveChecks}
@@ -25,6 +26,8 @@ sameHalf v w = (inRow v && inRow w) || (inColumn v && inColumn w)
 pub record Remaining (p : Puzzle) (ms : List ℕ) (t : Table) : Type 0 where
   -- each grid that keeps the puzzle and the marks fits it
   pub grids : (g : List ℕ) → Solution p ms g → fits (p .size) t g ≡ true
+  -- each cell has a candidate
+  pub filled : (r c : ℕ) → r < p .size → c < p .size → any (t r c) (everyValue (p .size)) ≡ true
   -- the four points
   pub closed : Closed p t
   -- a rejected candidate is gone

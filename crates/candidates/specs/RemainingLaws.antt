@@ -1,7 +1,7 @@
 -- The written table from the state at rest, and the answer from it. Assumes nothing.
-use Prim.Native.Nat.{ℕ, suc, _+_, _-_, _≤_, _<_}
+use Prim.Native.Nat.{ℕ, suc, _+_, _≤_, _<_}
 use mathlib.Core.Path.{_≡_, refl, sym, ap, _∙_, subst}
-use mathlib.Core.Bool.{Bool, true, false, not, _&&_, _||_, true≢false, or-true}
+use mathlib.Core.Bool.{Bool, true, false, _&&_, _||_, true≢false, or-true}
 use mathlib.Core.Logic.{_≢_, inl, inr}
 use mathlib.Core.List.{List, List·Memᴰ}
 use native.Mathlib.Omega.{arith}
@@ -9,6 +9,7 @@ use native.Mathlib.Decide.{ℕ-discrete, decLt}
 use lib.Dec.{ltb}
 use lib.ListN.{length}
 use borrow.Author.Tests.{lt-ltb, le-leb}
+use Rattle.tally.specs.Tally.{any}
 use Rattle.tally.specs.TallyLaws.{and-left, and-right, and-both}
 use Rattle.rules.specs.Grid.{Puzzle, across, down, keeps}
 use Rattle.rules.specs.Mark.{rejects, markRow, markColumn, markValue}
@@ -16,9 +17,11 @@ use Rattle.rules.specs.Check.{refusal, solveChecks}
 use Rattle.rules.specs.Number.{solves, number}
 use Rattle.number.specs.VerdictLaws.{Solution}
 use Rattle.puzzle.specs.PuzzleLaws.{accepted}
-use Rattle.table.specs.Table.{Table, firstBlack, half, fits, tableOf}
+use Rattle.table.specs.Table.{Table, firstBlack, everyValue, fits, tableOf}
 use Rattle.table.specs.Steps.{inRow, inColumn, markedAll}
 use Rattle.table.specs.Closed.{Closed}
+use Rattle.table.proofs.Decides.{refuted, is}
+use Rattle.table.proofs.Decides as decides
 use Rattle.line_laws.specs.Lists.{false-of}
 use Rattle.line_laws.specs.Half.{first-in, second-in}
 use Rattle.line_laws.specs.GridLines.{GridOf}
@@ -171,10 +174,18 @@ module _ {p : Puzzle} {ms : List ℕ} {len : ℕ} (a : SolveAsk p ms len) where
       some : (r c : ℕ) → r < p .size → c < p .size → Empty (p .size) t r c → ⊥
       some r c hr hc e = d .filled refl r c hr hc (λ v k. sym (same r c v hr hc k) ∙ e v k)
 
+      filled : (r c : ℕ) → r < p .size → c < p .size → any (t r c) (everyValue (p .size)) ≡ true
+      filled r c hr hc = go (any (t r c) (everyValue (p .size))) refl
+        where
+          go : (b : Bool) → any (t r c) (everyValue (p .size)) ≡ b → any (t r c) (everyValue (p .size)) ≡ true
+          go true e = e
+          go false e = absurd (some r c hr hc (λ v m. false-of (t r c v) (λ q. refuted (decides.some (λ w. is (t r c w)) (everyValue (p .size))) e (v, m, q))))
+
       remaining : Remaining p ms t
       remaining =
           record {
             grids = fits-grids;
+            filled = filled;
             closed = closed;
             rejected = λ x k e. gone x (markValue x) k (mark-in x k .value-in) (rejected-gone (tableIn (m .before)) k e);
             taken = λ x k e. let i = mark-in x k in

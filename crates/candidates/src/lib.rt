@@ -16,20 +16,22 @@ pub enum Outcome {
 }
 
 // Writes the table of what is not refused; false if a cell is left without candidates.
-pub fn write_table(n: usize, rows: &[u8], columns: &[u8], marks: &[u8], table: &mut [u16]) -> bool
+fn write_table(n: usize, rows: &[u8], columns: &[u8], marks: &[u8], table: &mut [u16]) -> bool
     requires { ⌜ SolveAsk (puzzle n (now rows) (now columns)) (marksOf (now marks)) (length (now table)) ⌝ }
     ensures { λ r. ⌜ Tabled (puzzle n (now (rows .entry)) (now (columns .entry))) (marksOf (now (marks .entry))) r (now (table .entry)) (now (table .exit)) ⌝ }
 {
     let mut st = [0u16; 5599];
     let mut words = [0u32; 1152];
-    if !prepare(&mut st, &mut words, n, rows, columns, marks) {
+    let prepared = prepare(&mut st, &mut words, n, rows, columns, marks);
+    if !prepared {
         return false;
     }
-    if !propagate(&mut st, &words, n) {
-        return false;
+    let rests = propagate(&mut st, &words, n);
+    if rests {
+        write_candidates(&st, n, table);
+        return true;
     }
-    write_candidates(&st, n, table);
-    true
+    false
 }
 
 // The candidates that are left of a puzzle and marks, n * n masks row by row, unless a cell is left with none.
@@ -40,7 +42,8 @@ pub fn candidates(
     marks: &[u8],
     table: &mut [u16],
 ) -> Outcome
-    ensures { λ r. ⌜ TableGiven (puzzle size (now (rows .entry)) (now (columns .entry))) (marksOf (now (marks .entry))) r (now (table .entry)) (now (table .exit)) ⌝ }
+    ensures { λ r. ⌜ TableGiven (puzzle size (now (rows .entry)) (now (columns .entry))) (marksOf (now (marks .entry)))
+        r (now (table .entry)) (now (table .exit)) ⌝ }
 {
     let k = solve_refusal(size, rows, columns, marks, table.len());
     if k != 0 {

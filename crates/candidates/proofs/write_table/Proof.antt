@@ -31,23 +31,22 @@ slice-aggregate-propagate-2 c = search needs
 propagate-requires : tie.Need-propagate-requires
 propagate-requires c κs = c .before .before .before .before .before .prepare .ensures .marked (not-false _ (c .before .before .if1 .left)) .propagable
 
-returns-2 : tie.Need-returns-2
-returns-2 c = tabled-none (left-none (c .before .before .before .before .before .before .before .before .before .before .before .before .before .before .before .pre) (c .before .before .before .before .before .before .before .before .prepare .ensures .marked (not-false _ (c .before .before .before .before .before .if1 .left))) (c .before .before .propagate .ensures) (not-true _ (c .if2 .taken)))
-
 slice-aggregate-write-candidates : tie.Need-slice-aggregate-write-candidates
 slice-aggregate-write-candidates c = search needs
 
 write-candidates-requires : tie.Need-write-candidates-requires
-write-candidates-requires c κs = (c .before .before .before .before .propagate .ensures .lagging (not-false _ (c .before .before .if2 .left)) .ready, solve-room (c .before .before .before .before .before .before .before .before .before .before .before .before .before .before .before .before .before .pre))
+write-candidates-requires c κs = (c .before .before .before .before .propagate .ensures .lagging (c .before .before .if2 .taken) .ready, solve-room (c .before .before .before .before .before .before .before .before .before .before .before .before .before .before .before .before .before .pre))
 
 same-length : tie.Need-same-length
 same-length c = search needs
 
-returns-3 : tie.Need-returns-3
-returns-3 c =
-    let rests = not-false _ (c .before .before .before .before .before .if2 .left) in
+returns-2 : tie.Need-returns-2
+returns-2 c =
     tabled-done (written-table (c .before .before .before .before .before .before .before .before .before .before .before .before .before .before .before .before .before .before .before .before .pre) (c .before .before .before .before .before .before .before .before .before .before .before .before .before .prepare .ensures .marked (not-false _ (c .before .before .before .before .before .before .before .before .before .before .if1 .left)))
-    (subst (Propagated _ _ _) rests (c .before .before .before .before .before .before .before .propagate .ensures)) (c .before .before .write-candidates .ensures) (search needs))
+    (subst (Propagated _ _ _) (c .before .before .before .before .before .if2 .taken) (c .before .before .before .before .before .before .before .propagate .ensures)) (c .before .before .write-candidates .ensures) (search needs))
+
+returns-3 : tie.Need-returns-3
+returns-3 c = tabled-none (left-none (c .before .before .before .before .before .before .before .before .before .before .before .before .before .before .before .pre) (c .before .before .before .before .before .before .before .before .prepare .ensures .marked (not-false _ (c .before .before .before .before .before .if1 .left))) (c .before .before .propagate .ensures) (c .if2 .left))
 
 pub write-table-spec : {M : Type 1} → statement M
 write-table-spec =
@@ -60,8 +59,8 @@ write-table-spec =
     slice-aggregate-propagate
     slice-aggregate-propagate-2
     propagate-requires
-    returns-2
     slice-aggregate-write-candidates
     write-candidates-requires
     same-length
+    returns-2
     returns-3)

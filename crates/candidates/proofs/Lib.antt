@@ -1,0 +1,2 @@
+-- Facts computed from `Remaining`.
+mod RemainingFacts
