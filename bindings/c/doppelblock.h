@@ -160,8 +160,9 @@ uint8_t doppelblock_solve(size_t size,
  * so it is 2 * size * size.
  *
  * Returns DOPPELBLOCK_DONE, DOPPELBLOCK_CONTRADICTED or a refusal, checked in
- * this order: 1, 2, 3, then 4, 5, 6 mark by mark, then 7. Only DONE writes. A
- * table can be written although no grid is left.
+ * this order: 1, 2, 3, then 4, 5, 6 mark by mark, then 7. Only DONE writes, and
+ * then each cell has a candidate. A table can be written although no grid is
+ * left.
  */
 uint8_t doppelblock_candidates(size_t size,
                                const uint8_t *rows, size_t rows_len,

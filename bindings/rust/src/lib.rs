@@ -182,7 +182,7 @@ pub fn solve(
 /// Writes into `table` what each cell can still be after the marks and one
 /// propagation: two bytes for each cell, row by row, the more significant first.
 /// Digit d is bit d of these 16; the left, right, upper and lower black are the
-/// bits size - 1 to size + 2.
+/// bits size - 1 to size + 2. In a written table each cell has a candidate.
 ///
 /// # Errors
 ///

@@ -58,14 +58,15 @@ fn expected(table: Option<Vec<u16>>, is_known_empty: bool) -> Expected<u8> {
     }
 }
 
-/// What the rules ask of a table: it shows the marks and has every grid. Where
-/// there is none, no grid may be left.
+/// What the rules ask of a table: each cell has a candidate, it shows the marks
+/// and has every grid. Where there is none, no grid may be left.
 fn allowed(accepted: &Accepted, table: Option<&[u16]>, grids: Option<&[&'static [u8]]>) -> bool {
     let (size, mut marks) = (accepted.size, accepted.marks.iter());
     let mut grids = grids.into_iter().flatten();
     match table {
         Some(table) => {
-            marks.all(|&mark| rules::shows_mark(size, table, mark))
+            rules::is_filled(table)
+                && marks.all(|&mark| rules::shows_mark(size, table, mark))
                 && grids.all(|cells| rules::has_grid(size, table, cells))
         }
         None => grids.next().is_none(),

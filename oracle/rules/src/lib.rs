@@ -17,7 +17,7 @@ pub use line::{LinePuzzle, line_puzzle};
 pub use marks::{Mark, marks_refusal};
 pub use searching::{candidates_refusal, count_refusal, marks_of, solve_refusal, word_bytes};
 pub use sums::{Sums, line_sum, mark_sheet, target_sums};
-pub use table::{has_grid, shows_mark};
+pub use table::{has_grid, is_filled, shows_mark};
 
 /// Cell byte of a cell that holds nothing.
 pub const EMPTY: u8 = 0;

@@ -37,6 +37,11 @@ pub fn shows_mark(size: usize, table: &[u16], mark: u16) -> bool {
     }
 }
 
+/// What a written table has to show whatever the marks: each cell has a candidate.
+pub fn is_filled(table: &[u16]) -> bool {
+    table.iter().all(|&entry| entry != 0)
+}
+
 /// Whether the table has each value of this grid.
 pub fn has_grid(size: usize, table: &[u16], cells: &[u8]) -> bool {
     (0..size * size)

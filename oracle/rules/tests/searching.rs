@@ -3,8 +3,8 @@
 use std::collections::BTreeSet;
 
 use rules::{
-    BLACK as B, candidates_refusal, count_refusal, every_grid, has_grid, marks_of, satisfies,
-    shows_mark, solve_refusal, ways, word_bytes,
+    BLACK as B, candidates_refusal, count_refusal, every_grid, has_grid, is_filled, marks_of,
+    satisfies, shows_mark, solve_refusal, ways, word_bytes,
 };
 
 const ZERO: [u8; 3] = [0; 3];
@@ -82,11 +82,13 @@ fn sample_sheets_are_counted() {
 fn a_table_shows_its_marks_and_grids() {
     let grid = [B, 1, B, 1, B, B, B, B, 1];
     let table = [20, 2, 24, 2, 20, 40, 36, 40, 2];
-    assert!(has_grid(3, &table, &grid));
+    assert!(has_grid(3, &table, &grid) && is_filled(&table));
     for place in 0..9 {
         let mut less = table;
         less[place] &= less[place] - 1;
         assert!(!has_grid(3, &less, &grid));
+        less[place] = 0;
+        assert!(!is_filled(&less));
     }
     // Take a 1 in the second cell, the left and the upper black in the first.
     for mark in [0x0088, 0x0040, 0x0050] {
