@@ -7,7 +7,7 @@ use native.Mathlib.Omega.{arith}
 use native.Mathlib.Decide.{ℕ-discrete, decLt}
 use native.Mathlib.Nat.{le-trans}
 use Rattle.bits.specs.SumLaws.{same-no, sum-same, sum-has}
-use Rattle.checks.specs.SizeLaws.{Size}
+use Rattle.rules.specs.SizeLaws.{Size}
 use Rattle.slab.specs.Slab.{cand, tail, lag, Grown}
 use Rattle.slab.specs.SlabLaws.{cand-lt}
 use Rattle.slab.specs.StruckLaws.{grown-refl, grown-trans, grown-gone}

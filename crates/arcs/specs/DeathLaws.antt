@@ -10,7 +10,7 @@ use lib.Bits.{bitAnd}
 use lib.ListN.{getD}
 use Rattle.bits.specs.Bit.{bit}
 use Rattle.bits.specs.BitLaws.{bit-lt}
-use Rattle.checks.specs.SizeLaws.{Size}
+use Rattle.rules.specs.SizeLaws.{Size}
 use Rattle.table.specs.Closed.{place, allows}
 use Rattle.slab.specs.Slab.{cand, Grown}
 use Rattle.slab.specs.SlabLaws.{cand-in}

@@ -10,7 +10,7 @@ use lib.Dec.{eqb}
 use borrow.Author.Tests.{lt-ltb, le-ltb, ne-eqb, eqb-false}
 use Rattle.bits.specs.Sum.{sum}
 use Rattle.bits.specs.SumLaws.{sum-has, sum-same}
-use Rattle.checks.specs.SizeLaws.{Size}
+use Rattle.rules.specs.SizeLaws.{Size}
 use Rattle.table.specs.Table.{places}
 use Rattle.slab.specs.Slab.{cand, tableIn, Grown}
 use Rattle.slab.specs.SlabLaws.{cand-lt}

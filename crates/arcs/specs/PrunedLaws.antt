@@ -8,7 +8,7 @@ use native.Mathlib.Omega.{arith}
 use native.Mathlib.Decide.{ℕ-discrete}
 use native.Mathlib.Nat.{le-trans}
 use lib.ListN.{length, getD, List·getD-eq-default}
-use Rattle.checks.specs.SizeLaws.{Size}
+use Rattle.rules.specs.SizeLaws.{Size}
 use Rattle.slab.specs.Slab.{cand, tail, Grown}
 use Rattle.slab.specs.SlabLaws.{cand-lt}
 use Rattle.slab.specs.StruckLaws.{grown-trans}

@@ -8,7 +8,7 @@ use native.Mathlib.Omega.{arith}
 use native.Mathlib.Decide.{ℕ-discrete, decLt}
 use lib.ListN.{length, getD, set}
 use lib.Seq.{getD-set-same, getD-set-other}
-use Rattle.checks.specs.SizeLaws.{Size}
+use Rattle.rules.specs.SizeLaws.{Size}
 use Rattle.slab.specs.Slab.{cand, Sized, Grown}
 use Rattle.slab.specs.StruckLaws.{grown-refl, grown-trans, set-cand, set-grown}
 use Rattle.slab.specs.Ready.{Ready, ready-grown, Next, next-grown}

@@ -16,8 +16,8 @@ use Rattle.soundness.specs.SameGrids.{same-left}
 use Rattle.slab.specs.Slab.{tableIn}
 use Rattle.slab.specs.Ready.{Ready}
 use Rattle.words.specs.Word.{Words}
-use Rattle.state.specs.State.{Kept, Propagated}
-use Rattle.state.specs.StateLaws.{within-sub}
+use Rattle.invariants.specs.State.{Kept, Propagated}
+use Rattle.invariants.specs.StateLaws.{within-sub}
 use Rattle.pick.specs.Choice.{rowChoices, Branch}
 use Rattle.pick.specs.ChoiceLaws.{row-choices}
 use Rattle.backtrack.specs.Search.{FitGrid, NoneLeft, OneLeft, Branching}

@@ -23,7 +23,7 @@ use Rattle.set_cell.specs.Setting.{SetHit}
 use Rattle.set_cell.specs.SetLaws.{set-table, yes-table, no-table}
 use Rattle.pick.specs.Choice.{Branch}
 use Rattle.pick.specs.ChoiceLaws.{row-choices-at}
-use Rattle.state.specs.StateLaws.{value-small, within-sub, one-table}
+use Rattle.invariants.specs.StateLaws.{value-small, within-sub, one-table}
 
 -- a value below 10 is one of the row half
 pub row-half-value : (n v : ℕ) → ValueOf n v → v < 10 → List·Memᴰ v (half n 8)

@@ -12,7 +12,7 @@ use Rattle.line_laws.specs.GridLines.{GridOf}
 use Rattle.soundness.specs.SameGrids.{SameGrids, Within}
 use Rattle.slab.specs.Slab.{tableIn}
 use Rattle.slab.specs.Ready.{Ready}
-use Rattle.state.specs.State.{Kept, Propagable}
+use Rattle.invariants.specs.State.{Kept, Propagable}
 use Rattle.pick.specs.Choice.{Branch}
 use Rattle.backtrack.specs.declared.Next.{Next}
 use Rattle.backtrack.specs.declared.Next.the-variants.{Contradicted, Settled}

@@ -17,8 +17,8 @@ use Rattle.soundness.specs.SameGrids.{same-left, Within, within-trans, within-r
 use Rattle.soundness.specs.Measures.{open-le, total-le}
 use Rattle.slab.specs.Slab.{tableIn, Struck, One}
 use Rattle.slab.specs.Ready.{Ready}
-use Rattle.state.specs.State.{Kept, Propagable}
-use Rattle.state.specs.StateLaws.{within-sub, kept-struck, lagging-struck}
+use Rattle.invariants.specs.State.{Kept, Propagable}
+use Rattle.invariants.specs.StateLaws.{within-sub, kept-struck, lagging-struck}
 use Rattle.set_cell.specs.Setting.{SetHit, SetAsk}
 use Rattle.backtrack.specs.Search.{FitGrid, NoneLeft, OneLeft, Branching, SettledAs, Searchable, Searched}
 use Rattle.backtrack.specs.BranchLaws.{branch-value, branch-open, branch-total, branch-counts}

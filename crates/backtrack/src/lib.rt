@@ -12,7 +12,7 @@ ghost use mathlib.Core.Bool.{_&&_};
 ghost use Prim.Native.Nat.{_*_};
 ghost use lib.Dec.{eqb};
 ghost use lib.ListN.{length};
-ghost use Rattle.state.specs.State.{Propagable};
+ghost use Rattle.invariants.specs.State.{Propagable};
 ghost use Rattle.backtrack.specs.Search.{Advanced, Searchable, Searched, Settling, SettledAs};
 
 pub enum Next {

@@ -31,8 +31,8 @@ use Rattle.soundness.specs.SameGrids.{SameGrids, same-left, same-ext, same-tran
 use Rattle.soundness.specs.Marks.{Accepted, marks-fits, rejected-gone, taken-alone}
 use Rattle.soundness.specs.Marks as marks
 use Rattle.slab.specs.Slab.{tableIn}
-use Rattle.state.specs.State.{Propagated}
-use Rattle.state.specs.StateLaws.{value-small, value-every, table-kept}
+use Rattle.invariants.specs.State.{Propagated}
+use Rattle.invariants.specs.StateLaws.{value-small, value-every, table-kept}
 use Rattle.written.specs.Published.{PublishedTable}
 use Rattle.written.specs.MaskLaws.{published-table}
 use Rattle.prepare.specs.Prepared.{Marked}

@@ -9,9 +9,9 @@ use Rattle.tally.specs.Tally.{all, join}
 use Rattle.tally.specs.TallyLaws.{and-left, and-right, and-both, all-less, all-perm}
 use Rattle.rules.specs.Grid.{Puzzle}
 use Rattle.rules.specs.Check.{refusal, checkMark, markChecks, puzzleChecks, countChecks, checkBuffer, solveChecks}
-use Rattle.checks.specs.CheckLaws.{refusal-skip, refusal-none-left, refusal-none-right, numbered-append}
+use Rattle.rules.specs.CheckLaws.{refusal-skip, refusal-none-left, refusal-none-right, numbered-append}
 use Rattle.puzzle.specs.PuzzleLaws.{puzzle-numbered}
-use Rattle.marks.specs.MarkLaws.{mark-numbered}
+use Rattle.mark_list.specs.MarkLaws.{mark-numbered}
 use Rattle.engine.specs.SolveLaws.{marks-numbered}
 
 -- A mark passes its own checks.

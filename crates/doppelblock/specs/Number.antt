@@ -4,8 +4,8 @@ use mathlib.Core.Path.{_≡_}
 use mathlib.Core.List.{List}
 use Rattle.rules.specs.Grid.{Puzzle}
 use Rattle.rules.specs.Sums.{Sums}
-use Rattle.marking.specs.declared.Marked.{Marked}
-use Rattle.marking.specs.declared.Marked.the-variants.{Refused, Right, Wrong}
+use Rattle.sheet_marking.specs.declared.Marked.{Marked}
+use Rattle.sheet_marking.specs.declared.Marked.the-variants.{Refused, Right, Wrong}
 use Rattle.engine.specs.declared.Counted.{Counted}
 use Rattle.engine.specs.declared.Counted.the-variants.{Count}
 use Rattle.engine.specs.declared.Counted.the-variants as counts

@@ -2,11 +2,11 @@
 use candidates::Outcome;
 use engine::Counted;
 use engine::Solved;
-use marking::Marked;
+use sheet_marking::Marked;
 ghost use mathlib.Core.Path.{_≡_};
 ghost use Rattle.rules.specs.Sums.{targetSums};
 ghost use Rattle.puzzle.specs.Given.{puzzle};
-ghost use Rattle.marking.specs.Answer.{markSheet};
+ghost use Rattle.sheet_marking.specs.Answer.{markSheet};
 ghost use Rattle.rules.specs.Mark.{marksOf};
 ghost use Rattle.engine.specs.Answer.{countAnswer};
 ghost use Prim.Native.Nat.{_*_, min};
@@ -44,7 +44,7 @@ pub extern "C" fn doppelblock_target_sums(
 ) -> u8
     ensures { λ r. ⌜ SumsGiven (targetSums size (now (cells .entry)) (now (rows .entry)) (now (columns .entry))) r (now (rows .exit)) (now (columns .exit)) ⌝ }
 {
-    grid::number(grid::compute_targets(size, cells, rows, columns))
+    target_sums::number(target_sums::compute_targets(size, cells, rows, columns))
 }
 
 fn sheet_number(answer: Marked) -> u8
@@ -67,7 +67,7 @@ pub extern "C" fn doppelblock_mark_sheet(
 ) -> u8
     ensures { λ r. ⌜ r ≡ sheetNumber (markSheet (puzzle size (now (rows .entry)) (now (columns .entry))) (now (cells .entry))) ⌝ }
 {
-    sheet_number(marking::mark_sheet(size, rows, columns, cells))
+    sheet_number(sheet_marking::mark_sheet(size, rows, columns, cells))
 }
 
 // 0 where the count is the smaller of the cap and the number of grids that keep the puzzle and the marks, else the number of the refusal.

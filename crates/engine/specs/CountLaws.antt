@@ -5,7 +5,7 @@ use mathlib.Core.Bool.{Bool, true, false, true≢false}
 use mathlib.Core.List.{List}
 use native.Mathlib.Omega.{arith}
 use lib.ListN.{length}
-use Rattle.checks.specs.CheckLaws.{refusal-skip, refusal-stop, refusal-none-left, refusal-none-right}
+use Rattle.rules.specs.CheckLaws.{refusal-skip, refusal-stop, refusal-none-left, refusal-none-right}
 use Rattle.rules.specs.Grid.{Puzzle}
 use Rattle.rules.specs.Check.{refusal, puzzleChecks, markChecks, countChecks}
 use Rattle.rules.specs.Number.{number, capped}
@@ -17,7 +17,7 @@ use Rattle.soundness.specs.Marks.{marks-number}
 use Rattle.soundness.specs.Marks as marks
 use Rattle.slab.specs.Slab.{tableIn}
 use Rattle.fresh.specs.Fresh.{Blank}
-use Rattle.state.specs.StateLaws.{value-small}
+use Rattle.invariants.specs.StateLaws.{value-small}
 use Rattle.backtrack.specs.Search.{Searchable, Searched}
 use Rattle.prepare.specs.Prepared.{PrepareAsk, Prepared, Marked}
 use Rattle.engine.specs.declared.Counted.the-variants.{Refused, Count}

@@ -9,21 +9,21 @@ use lib.Dec.{eqb}
 use lib.ListN.{length}
 use borrow.Author.Tests.{eq-eqb, ne-eqb, eqb-true}
 use Rattle.tally.specs.Tally.{join}
-use Rattle.checks.specs.CheckLaws.{numbered, refusal-skip, refusal-stop, refusal-none, refusal-none-left, refusal-none-right, numbered-append}
-use Rattle.checks.specs.SizeLaws.{Size}
+use Rattle.rules.specs.CheckLaws.{numbered, refusal-skip, refusal-stop, refusal-none, refusal-none-left, refusal-none-right, numbered-append}
+use Rattle.rules.specs.SizeLaws.{Size}
 use Rattle.rules.specs.Grid.{Puzzle}
 use Rattle.rules.specs.Check.{checkBuffer, refusal, checkMark, puzzleChecks, markChecks, countChecks, solveChecks}
 use Rattle.rules.specs.Number.{number, capped, verdictOf}
 use Rattle.number.specs.VerdictLaws.{verdict-capped}
 use Rattle.puzzle.specs.Given.{puzzle}
 use Rattle.puzzle.specs.PuzzleLaws.{puzzle-numbered, accepted-size}
-use Rattle.marks.specs.MarkLaws.{mark-numbered}
+use Rattle.mark_list.specs.MarkLaws.{mark-numbered}
 use Rattle.soundness.specs.SameGrids.{Within}
 use Rattle.soundness.specs.Marks.{within-solution}
 use Rattle.soundness.specs.Marks as marks
 use Rattle.table.specs.Steps.{markedAll}
 use Rattle.slab.specs.Slab.{tableIn}
-use Rattle.state.specs.StateLaws.{value-small}
+use Rattle.invariants.specs.StateLaws.{value-small}
 use Rattle.backtrack.specs.Search.{Searchable, Searched}
 use Rattle.prepare.specs.Prepared.{Prepared, Marked}
 use Rattle.engine.specs.declared.Solved.{Solved}

@@ -1,6 +1,6 @@
 // Count and Solve (in the Rust: count_solutions and solve).
 use backtrack::search;
-use marks::marks_refusal;
+use mark_list::marks_refusal;
 use prepare::prepare;
 use puzzle::puzzle_refusal;
 ghost use mathlib.Core.Path.{_≡_};

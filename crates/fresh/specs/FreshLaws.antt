@@ -13,7 +13,7 @@ use Rattle.tally.specs.Tally as tally
 use Rattle.tally.specs.TallyLaws.{span-mem, and-left, and-right}
 use Rattle.tally.specs.WayLaws.{all-each}
 use Rattle.rules.specs.Line.{digits}
-use Rattle.checks.specs.SizeLaws.{Size, at-size}
+use Rattle.rules.specs.SizeLaws.{Size, at-size}
 use Rattle.table.specs.Table.{half, everyValue}
 use Rattle.value.specs.Mask.{maskOf}
 use Rattle.bits.specs.Bit.{bit}

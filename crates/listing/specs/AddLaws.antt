@@ -11,7 +11,7 @@ use lib.Seq.{getD-set-same, getD-set-other}
 use Rattle.tally.specs.Tally.{span, keep, join}
 use Rattle.tally.specs.Tally as tally
 use Rattle.tally.specs.TallyLaws.{span-length}
-use Rattle.checks.specs.Strided.{map-next}
+use Rattle.rules.specs.Strided.{map-next}
 use Rattle.words.specs.Word.{maskIn, sizeIn, fromSum, Known, wordOf, part}
 use Rattle.words.specs.WordFacts.{subset-fits, from-sum-most}
 use Rattle.words.specs.FillLaws.{top-is}

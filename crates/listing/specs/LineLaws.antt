@@ -12,7 +12,7 @@ use Rattle.tally.specs.Tally.{span}
 use Rattle.tally.specs.Tally as tally
 use Rattle.bits.specs.Sum.{sum}
 use Rattle.bits.specs.SumLaws.{sum-zero, sum-first, sum-same}
-use Rattle.checks.specs.SizeLaws.{Size}
+use Rattle.rules.specs.SizeLaws.{Size}
 use Rattle.rules.specs.Check.{maxTarget}
 use Rattle.words.specs.Word.{arrangementOf, wordOf, part}
 use Rattle.fresh.specs.Fresh.{Fresh}

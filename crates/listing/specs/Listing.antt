@@ -9,7 +9,7 @@ use Rattle.tally.specs.Tally.{span}
 use Rattle.tally.specs.Tally as tally
 use Rattle.bits.specs.Bit.{bit}
 use Rattle.bits.specs.Sum.{sum, same}
-use Rattle.checks.specs.SizeLaws.{Size}
+use Rattle.rules.specs.SizeLaws.{Size}
 use Rattle.rules.specs.Check.{maxTarget}
 use Rattle.rules.specs.Arrangement.{arrangements}
 use Rattle.words.specs.Word.{Known, arrangementOf, wordOf, maskIn, setOf, innerOf, part, Shaped, Words}

@@ -14,7 +14,7 @@ use Rattle.rules.specs.Line.{digits, meets}
 use Rattle.rules.specs.Check.{maxTarget}
 use Rattle.rules.specs.Arrangement.{Arrangement, subsets, subsetsWith, fromStarts, insides, outsides, arrangements}
 use Rattle.bits.specs.Bit.{bit}
-use Rattle.checks.specs.SizeLaws.{Size, at-size}
+use Rattle.rules.specs.SizeLaws.{Size, at-size}
 use Rattle.words.specs.Word.{subsetTable, subset, sumTable, fromSum, maskIn, digitsOf, arrangementOf, Known}
 use Rattle.listing.specs.Numbers.{scan, onSide, startsFrom, ofSize, sideFrom, sideOf, numbersFor}
 

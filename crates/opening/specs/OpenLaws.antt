@@ -12,7 +12,7 @@ use Rattle.bits.specs.Bit.{bit}
 use Rattle.bits.specs.BitLaws.{bit-lt, bit-le, bit-zero}
 use Rattle.bits.specs.Sum.{same}
 use Rattle.bits.specs.SumLaws.{sum-same}
-use Rattle.checks.specs.SizeLaws.{Size}
+use Rattle.rules.specs.SizeLaws.{Size}
 use Rattle.slab.specs.Slab.{cand, tail, entry, waits, lag, left, Sized, Grown, Struck}
 use Rattle.slab.specs.SlabLaws.{cand-same}
 use Rattle.slab.specs.StruckLaws.{grown-sized, grown-trans}

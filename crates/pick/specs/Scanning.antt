@@ -5,7 +5,7 @@ use mathlib.Core.List.{List}
 use native.Mathlib.Omega.{arith}
 use native.Mathlib.Decide.{ℕ-discrete}
 use lib.ListN.{length}
-use Rattle.checks.specs.SizeLaws.{Size}
+use Rattle.rules.specs.SizeLaws.{Size}
 use Rattle.slab.specs.Ready.{Ready}
 use Rattle.pick.specs.Choice.{rowChoices, Open}
 use Rattle.pick.specs.ChoiceLaws.{choices-most}

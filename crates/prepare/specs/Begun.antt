@@ -7,7 +7,7 @@ use native.Mathlib.Omega.{arith}
 use borrow.Author.Tests.{lt-ltb, le-ltb}
 use Rattle.tally.specs.Tally.{span}
 use Rattle.tally.specs.TallyLaws.{span-mem, span-in}
-use Rattle.checks.specs.SizeLaws.{Size}
+use Rattle.rules.specs.SizeLaws.{Size}
 use Rattle.rules.specs.Grid.{Line, across, down, index, target}
 use Rattle.rules.specs.Arrangement.{Arrangement, arrangements}
 use Rattle.soundness.specs.Marks.{Whole}
@@ -19,11 +19,11 @@ use Rattle.counters.specs.Families.{halves-moved, places-moved, blacks-moved}
 use Rattle.arcs.specs.Arc.{lives, live, Unsupported}
 use Rattle.fresh.specs.Fresh.{Fresh}
 use Rattle.fresh.specs.FreshLaws.{fresh-lag, fresh-full, fresh-ready}
-use Rattle.started.specs.Started.{started-halves, started-places, started-blacks}
+use Rattle.prepare.specs.Started.{started-halves, started-places, started-blacks}
 use Rattle.listing.specs.Listing.{targetAt}
 use Rattle.opening.specs.Opening.{Opened}
-use Rattle.held.specs.Held.{held-holding, held-fits}
-use Rattle.state.specs.State.{number, Kept, Occupied, Lagging}
+use Rattle.prepare.specs.Held.{held-holding, held-fits}
+use Rattle.invariants.specs.State.{number, Kept, Occupied, Lagging}
 use Rattle.propagate.specs.Flow.{number-of}
 use Rattle.puzzle.specs.Given.{puzzle}
 

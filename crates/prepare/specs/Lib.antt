@@ -1,3 +1,5 @@
 pub mod Prepared
 pub mod Begun
 pub mod PrepareLaws
+pub mod Started
+pub mod Held

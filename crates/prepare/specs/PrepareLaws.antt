@@ -10,7 +10,7 @@ use borrow.Author.Tests.{leb-true}
 use Rattle.tally.specs.Tally.{all}
 use Rattle.tally.specs.TallyLaws.{and-left, and-right}
 use Rattle.line_laws.specs.Lists.{false-of}
-use Rattle.checks.specs.SizeLaws.{Size, size-in}
+use Rattle.rules.specs.SizeLaws.{Size, size-in}
 use Rattle.rules.specs.Check.{maxTarget}
 use Rattle.table.specs.Steps.{markedAll}
 use Rattle.settled.specs.EmptyCell.{empty-left}
@@ -23,8 +23,8 @@ use Rattle.listing.specs.Listing.{OpenAsk}
 use Rattle.opening.specs.Opening.{Opened}
 use Rattle.puzzle.specs.Given.{puzzle}
 use Rattle.puzzle.specs.PuzzleLaws.{Accepted, accepted}
-use Rattle.state.specs.State.{Kept, Lagging, Propagable, Propagated}
-use Rattle.marked.specs.Applied.{MarksApplied}
+use Rattle.invariants.specs.State.{Kept, Lagging, Propagable, Propagated}
+use Rattle.apply_marks.specs.Applied.{MarksApplied}
 use Rattle.prepare.specs.Prepared.{PrepareAsk, Prepared}
 use Rattle.prepare.specs.Begun.{begun-lagging, begun-kept, begun-whole}
 

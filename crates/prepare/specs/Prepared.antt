@@ -11,7 +11,7 @@ use Rattle.table.specs.Steps.{markedAll}
 use Rattle.soundness.specs.Marks.{Whole}
 use Rattle.slab.specs.Slab.{tableIn}
 use Rattle.fresh.specs.Fresh.{Blank}
-use Rattle.state.specs.State.{Kept, Propagable}
+use Rattle.invariants.specs.State.{Kept, Propagable}
 
 -- What it asks: a puzzle and marks that are not refused, and blank memory.
 pub record PrepareAsk (p : Puzzle) (ms ws l : List ℕ) : Type 0 where

@@ -1,6 +1,6 @@
 // The state of a puzzle after its marks: opened, propagated once as the Rust's constructor does, and marked.
+use apply_marks::apply_marks;
 use fresh::fresh;
-use marked::apply_marks;
 use opening::open;
 use propagate::propagate;
 use words::fill_words;

@@ -22,8 +22,8 @@ use Rattle.slab.specs.Slab.{cand, tableIn}
 use Rattle.slab.specs.Ready.{Moved}
 use Rattle.words.specs.Word.{arrangementOf}
 use Rattle.arcs.specs.Arc.{LineOf, Older, Pruned}
-use Rattle.state.specs.State.{number, candidatesOf, Kept}
-use Rattle.state.specs.StateLaws.{candidate-at, value-small, within-sub, kept-moved}
+use Rattle.invariants.specs.State.{number, candidatesOf, Kept}
+use Rattle.invariants.specs.StateLaws.{candidate-at, value-small, within-sub, kept-moved}
 use Rattle.singles.specs.Reasons.{TableIs, Reason, still, naked, hidden, crossed, Steps, done, step}
 
 -- A step that loses no grid, for each puzzle whose arrangements the state has.

@@ -3,3 +3,4 @@ pub mod Update
 pub mod UpdateLaws
 pub mod Loop
 pub mod Rest
+pub mod Supports

@@ -17,7 +17,7 @@ use Rattle.slab.specs.SlabLaws.{cand-in}
 use Rattle.slab.specs.Ready.{Valid, ready-grown, Next, lag-pop}
 use Rattle.words.specs.Word.{Words}
 use Rattle.counters.specs.CounterLaws.{next-valid}
-use Rattle.state.specs.State.{Occupied, Lagging, Propagable, Propagated}
+use Rattle.invariants.specs.State.{Occupied, Lagging, Propagable, Propagated}
 use Rattle.propagate.specs.Flow.{Flows, flows-refl, flows-both}
 use Rattle.propagate.specs.Update.{UpdateAsk, UpdateDone}
 

@@ -23,9 +23,9 @@ use Rattle.counters.specs.Counters.{Fam, Ruled, AllSet, NoBlacks, Halves, LineP
 use Rattle.counters.specs.Closure.{AtRest, lone, single, crossed, crossedBack, blacks}
 use Rattle.arcs.specs.Arc.{lives, live}
 use Rattle.words.specs.Word.{arrangementOf}
-use Rattle.supports.specs.Supports.{Numbered, row-numbered, column-numbered, supported}
-use Rattle.state.specs.State.{number, Kept, Occupied, Counted, Lagging, Propagated}
-use Rattle.state.specs.StateLaws.{value-every, Shrunk, arc-same, kept-same}
+use Rattle.propagate.specs.Supports.{Numbered, row-numbered, column-numbered, supported}
+use Rattle.invariants.specs.State.{number, Kept, Occupied, Counted, Lagging, Propagated}
+use Rattle.invariants.specs.StateLaws.{value-every, Shrunk, arc-same, kept-same}
 use Rattle.propagate.specs.Flow.{number-of}
 use Rattle.propagate.specs.Loop.{Propagating}
 

@@ -5,7 +5,7 @@ use Rattle.slab.specs.Slab.{lag, Grown}
 use Rattle.slab.specs.Ready.{Next}
 use Rattle.words.specs.Word.{Words}
 use Rattle.singles.specs.Handling.{Handling}
-use Rattle.state.specs.State.{Counted}
+use Rattle.invariants.specs.State.{Counted}
 use Rattle.propagate.specs.Flow.{Flows}
 
 -- What it asks: the strike at the head, with all counters up to it.

@@ -13,8 +13,8 @@ use Rattle.set_cell.specs.SetLaws.{value-range}
 use Rattle.counters.specs.Families.{halves-moved, places-moved, blacks-moved}
 use Rattle.singles.specs.Handling.{Handling, handling-grown, SingletonAsk, SingletonDone, HiddenAsk, HiddenDone, ConsistencyAsk, ConsistencyDone}
 use Rattle.arcs.specs.Arc.{lives, Tallied, Arc, ArcAsk, ArcDone}
-use Rattle.state.specs.State.{Counted}
-use Rattle.state.specs.StateLaws.{tallied-moved, arc-moved}
+use Rattle.invariants.specs.State.{Counted}
+use Rattle.invariants.specs.StateLaws.{tallied-moved, arc-moved}
 use Rattle.propagate.specs.Flow.{flows-both, steps-flow, pruned-flow}
 use Rattle.propagate.specs.Update.{UpdateAsk, UpdateDone}
 

@@ -4,7 +4,7 @@ use singles::update_black_consistency;
 use singles::update_hidden_singles;
 use singles::update_singleton;
 use slab::Slab;
-ghost use Rattle.state.specs.State.{Propagable, Propagated};
+ghost use Rattle.invariants.specs.State.{Propagable, Propagated};
 ghost use Rattle.propagate.specs.Update.{UpdateAsk, UpdateDone};
 
 // All handlers of a strike.

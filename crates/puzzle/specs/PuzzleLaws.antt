@@ -10,8 +10,8 @@ use Rattle.tally.specs.Tally.{all}
 use Rattle.tally.specs.TallyLaws.{and-left, and-right}
 use Rattle.rules.specs.Grid.{Puzzle}
 use Rattle.rules.specs.Check.{refusal, maxTarget, sizeFits, targetsFit, puzzleChecks}
-use Rattle.checks.specs.CheckLaws.{numbered, refusal-none}
-use Rattle.checks.specs.SizeLaws.{Size, size-in}
+use Rattle.rules.specs.CheckLaws.{numbered, refusal-none}
+use Rattle.rules.specs.SizeLaws.{Size, size-in}
 use Rattle.puzzle.specs.Given.{puzzle}
 
 module _ (p : Puzzle) where

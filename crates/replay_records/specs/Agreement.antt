@@ -6,7 +6,7 @@ use mathlib.Core.List.{List, [], _∷_}
 use lib.ListN.{length}
 use Rattle.rules.specs.Sums.{Sums, targetSums}
 use Rattle.puzzle.specs.Given.{puzzle}
-use Rattle.marking.specs.Answer.{markSheet}
+use Rattle.sheet_marking.specs.Answer.{markSheet}
 use Rattle.doppelblock.specs.Number.{sheetNumber}
 use Rattle.replay_records.specs.Fields.{field, sizeOf}
 

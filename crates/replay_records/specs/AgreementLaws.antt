@@ -8,7 +8,7 @@ use lib.ListN.{length, take}
 use borrow.Author.Tests.{not-true, not-false}
 use Rattle.rules.specs.Sums.{targetSums}
 use Rattle.puzzle.specs.Given.{puzzle}
-use Rattle.marking.specs.Answer.{markSheet}
+use Rattle.sheet_marking.specs.Answer.{markSheet}
 use Rattle.doppelblock.specs.Number.{SumsGiven, sheetNumber}
 use Rattle.replay_records.specs.Fields.{field, sizeOf}
 use Rattle.replay_records.specs.Agreement.{Says, SumsRecorded, SumsFrom, SumsAgree, SheetAgrees}

@@ -9,3 +9,8 @@ pub mod Marking
 pub mod GridLaws
 pub mod SizeFour
 pub mod Samples
+pub mod CheckLaws
+pub mod EachLaws
+pub mod Strided
+pub mod InsideLaws
+pub mod SizeLaws

@@ -3,11 +3,11 @@
 use libc::EINTR;
 use libc::STDIN_FILENO;
 use libc::STDOUT_FILENO;
-use sheet_stream::Stream;
+use text_stream::Stream;
 ghost use mathlib.Core.Path.{_≡_};
 ghost use Prim.Native.Nat.{_≤_};
 ghost use lib.ListN.{length};
-ghost use Rattle.sheet_stream.specs.Stream.{KeptFits};
+ghost use Rattle.text_stream.specs.Stream.{KeptFits};
 
 // What comes next: more input, the end of the input, or nothing, because a read or a write failed.
 enum Next {

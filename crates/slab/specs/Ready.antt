@@ -8,7 +8,7 @@ use native.Mathlib.Decide.{ℕ-discrete}
 use lib.ListN.{getD}
 use Rattle.bits.specs.Sum.{sum, same}
 use Rattle.bits.specs.SumLaws.{sum-first}
-use Rattle.checks.specs.SizeLaws.{Size}
+use Rattle.rules.specs.SizeLaws.{Size}
 use Rattle.slab.specs.Slab.{cand, tail, entry, waits, lag, Sized, Grown}
 use Rattle.slab.specs.SlabLaws.{cand-lt}
 use Rattle.slab.specs.StruckLaws.{grown-sized}

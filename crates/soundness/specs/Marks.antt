@@ -15,7 +15,7 @@ use Rattle.rules.specs.Grid.{Puzzle, across, down}
 use Rattle.rules.specs.Mark.{rejects, markRow, markColumn, markValue, has, keepsMark, keepsMarks}
 use Rattle.rules.specs.Number.{solves, number}
 use Rattle.rules.specs.Check.{refusal, named, checkMark, markChecks}
-use Rattle.checks.specs.CheckLaws.{numbered, refusal-none, refusal-none-left, refusal-none-right}
+use Rattle.rules.specs.CheckLaws.{numbered, refusal-none, refusal-none-left, refusal-none-right}
 use Rattle.number.specs.VerdictLaws.{Solution}
 use Rattle.table.specs.Table.{Table, firstBlack, half, fits, left}
 use Rattle.table.specs.Steps.{inRow, inColumn, struck, taken, marked, markedAll}

@@ -7,7 +7,7 @@ use lib.Dec.{eqb}
 use borrow.Author.Tests.{eqb-true}
 use Rattle.tally.specs.Tally.{span, sum, all}
 use Rattle.rules.specs.Line.{digits}
-use Rattle.checks.specs.SizeLaws.{Size, at-size}
+use Rattle.rules.specs.SizeLaws.{Size, at-size}
 use Rattle.rules.specs.Mark.{leftBlack, upperBlack}
 use Rattle.table.specs.Table.{half, everyValue}
 use Rattle.value.specs.Mask.{maskOf}

@@ -3,7 +3,7 @@
 ghost use mathlib.Core.Path.{_≡_};
 ghost use Rattle.rules.specs.Line.{digits};
 ghost use Rattle.rules.specs.Check.{named};
-ghost use Rattle.checks.specs.SizeLaws.{Size};
+ghost use Rattle.rules.specs.SizeLaws.{Size};
 ghost use Rattle.rules.specs.Mark.{leftBlack, upperBlack};
 ghost use Rattle.table.specs.Table.{half, everyValue};
 ghost use Rattle.value.specs.Mask.{maskOf};

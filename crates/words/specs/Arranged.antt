@@ -12,7 +12,7 @@ use Rattle.tally.specs.Tally.{span, any, keep}
 use Rattle.bits.specs.Bit.{bit}
 use Rattle.bits.specs.BitLaws.{bit-zero}
 use Rattle.table.specs.Closed.{place, allows}
-use Rattle.checks.specs.SizeLaws.{Size}
+use Rattle.rules.specs.SizeLaws.{Size}
 use Rattle.words.specs.Word.{maskIn, sizeIn, digitsOf, arrangementOf, Known, wordOf, pattern, coveredOf, fromOf, toOf, steps}
 use Rattle.words.specs.WordFacts.{subset-size, mask-even}
 use Rattle.words.specs.StepLaws.{steps-on, steps-back, steps-none, steps-same, steps-lt}

@@ -6,7 +6,7 @@ use native.Mathlib.Nat.{mod-eq-of-lt}
 use lib.Bits.{bitOr}
 use lib.Pow.{pow-pos, pow-lt, shl-exact}
 use borrow.Author.Tests.{lt-ltb, le-ltb, eq-eqb, ne-eqb}
-use Rattle.checks.specs.SizeLaws.{Size}
+use Rattle.rules.specs.SizeLaws.{Size}
 use Rattle.words.specs.Word.{firstOf, secondOf, outsideOf, coveredOf, innerPlaces, wordFrom, fromOf, toOf, headOf, lastOf}
 use Rattle.words.specs.WordFacts.{inner-small}
 

@@ -7,7 +7,7 @@ use native.Mathlib.Decide.{decLt, ℕ-discrete}
 use lib.ListN.{length, getD, set, length-set}
 use lib.Seq.{getD-set-same, getD-set-other}
 use Rattle.bits.specs.BitLaws.{shl-one}
-use Rattle.checks.specs.SizeLaws.{Size}
+use Rattle.rules.specs.SizeLaws.{Size}
 use Rattle.words.specs.Word.{subset, maskIn, sizeIn, Known, wordFrom, wordOf, Words}
 use Rattle.words.specs.WordFacts.{subset-fits}
 

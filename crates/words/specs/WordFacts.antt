@@ -10,7 +10,7 @@ use Rattle.tally.specs.Tally.{span, all, keep, sum}
 use Rattle.tally.specs.TallyLaws.{span-mem, and-left, and-right}
 use Rattle.tally.specs.WayLaws.{all-each}
 use Rattle.bits.specs.Bit.{bit}
-use Rattle.checks.specs.SizeLaws.{Size, at-size}
+use Rattle.rules.specs.SizeLaws.{Size, at-size}
 use Rattle.words.specs.Word.{subsetTable, subset, sumTable, fromSum, maskIn, sumIn, sizeIn, digitsOf, innerPlaces, steps}
 
 -- a test that is computed at each number of a span

@@ -8,7 +8,7 @@ use native.Mathlib.Decide.{decLt}
 use lib.Dec.{ltb}
 use borrow.Author.Tests.{lt-ltb, le-ltb, eq-eqb, ne-eqb}
 use Rattle.bits.specs.Bit.{bit}
-use Rattle.checks.specs.SizeLaws.{Size}
+use Rattle.rules.specs.SizeLaws.{Size}
 use Rattle.words.specs.Word.{maskIn, sizeIn, Known, setOf, innerOf, firstOf, secondOf, outsideOf, innerPlaces, wordFrom, wordOf}
 use Rattle.words.specs.Word.{fromOf, toOf, headOf, lastOf, steps, Shaped}
 use Rattle.words.specs.WordFacts.{subset-fits, inner-small, inner-between, inner-start, inner-far, inner-past}

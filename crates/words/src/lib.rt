@@ -4,7 +4,7 @@
 ghost use mathlib.Core.Path.{_≡_};
 ghost use Prim.Native.Nat.{_+_, _≤_, _<_};
 ghost use lib.ListN.{length};
-ghost use Rattle.checks.specs.SizeLaws.{Size};
+ghost use Rattle.rules.specs.SizeLaws.{Size};
 ghost use Rattle.words.specs.Word.{fromSum, setOf, firstOf, secondOf, coveredOf, innerPlaces, wordFrom, fromOf, toOf, headOf, lastOf, Words};
 ghost use Rattle.words.specs.FillLaws.{FillAsk, Filled};
 

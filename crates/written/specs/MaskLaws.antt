@@ -17,7 +17,7 @@ use Rattle.tally.specs.TallyLaws.{span-in, map-at}
 use Rattle.rules.specs.Line.{digits}
 use Rattle.rules.specs.Grid.{cell}
 use Rattle.rules.specs.GridLaws.{place-lt}
-use Rattle.checks.specs.SizeLaws.{Size}
+use Rattle.rules.specs.SizeLaws.{Size}
 use Rattle.value.specs.MaskLaws.{digits-small}
 use Rattle.table.specs.Table.{half, everyValue, bitOf, hasBit, tableOf}
 use Rattle.bits.specs.Bit.{bit}

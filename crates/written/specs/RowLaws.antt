@@ -10,7 +10,7 @@ use lib.ListN.{length, getD, set, take, drop, length-drop, length-set, drop-of-l
 use lib.Seq.{set-at, take-at, drop-at, take-all, drop-drop, drop-cons}
 use Rattle.tally.specs.Tally.{span}
 use Rattle.tally.specs.TallyLaws.{span-length}
-use Rattle.checks.specs.Strided.{map-next}
+use Rattle.rules.specs.Strided.{map-next}
 use Rattle.written.specs.Published.{rowWritten}
 
 length-map : (f : ℕ → ℕ) (l : List ℕ) → length (map f l) ≡ length l

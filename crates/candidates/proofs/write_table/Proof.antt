@@ -1,6 +1,6 @@
 -- `candidates::write_table` meets its contract. Assumes nothing.
 use mathlib.Core.Path.{subst}
-use Rattle.state.specs.State.{Propagated}
+use Rattle.invariants.specs.State.{Propagated}
 use Rattle.fresh.specs.FillLaws.{blank-zeros}
 use Rattle.engine.specs.CountLaws.{count-prepare}
 use Rattle.engine.specs.SolveLaws.{solve-count, solve-room}

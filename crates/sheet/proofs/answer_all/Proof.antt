@@ -2,7 +2,7 @@
 use Prim.Native.Nat.{_≤_}
 use mathlib.Core.Path.{_≡_}
 use lib.ListN.{length}
-use Rattle.sheet_stream.specs.Stream.{KeptFits}
+use Rattle.text_stream.specs.Stream.{KeptFits}
 use borrow.Author.Needs.{needs}
 use Rattle.sheet.proofs.answer_all.Statement.{statement}
 use Rattle.sheet.proofs.answer_all.Tie as tie

@@ -1,0 +1,169 @@
+// Target sums of a grid of cells (in the Rust: grid.rs, compute_targets). A line is read by its start and its stride, so that rows and columns
+// are one case.
+use puzzle::size_fits;
+use puzzle::targets_fit;
+use puzzle::wide;
+ghost use mathlib.Core.Path.{_≡_};
+ghost use Prim.Native.Nat.{_≤_};
+ghost use lib.ListN.{length};
+ghost use Rattle.tally.specs.Tally.{join};
+ghost use Rattle.rules.specs.Line.{lineSum};
+ghost use Rattle.rules.specs.Check.{refusal, checkLine, sumsChecks};
+ghost use Rattle.rules.specs.Sums.{targetSums};
+ghost use Rattle.rules.specs.Strided.{strided, each};
+ghost use Rattle.target_sums.specs.Answer.{Answered, numberOf};
+ghost use Rattle.target_sums.specs.Scanning.{Seen, Small, Next, Within, AllWithin, Ready};
+
+pub enum Summed {
+    Refused(u8),
+    Done,
+}
+
+// What a walk along a line has found: blacks, empty cells between the first two, and the sum there.
+pub struct Scan {
+    pub blacks: usize,
+    pub empties: usize,
+    pub sum: usize,
+}
+
+fn add_cell(s: Scan, c: u8) -> Scan
+    requires { ⌜ Small s 9 ⌝ }
+    ensures { λ r. ⌜ Next s c r ⌝ }
+{
+    if c == 255 {
+        return Scan {
+            blacks: s.blacks + 1,
+            empties: s.empties,
+            sum: s.sum,
+        };
+    }
+    if s.blacks != 1 {
+        return s;
+    }
+    if c == 0 {
+        return Scan {
+            blacks: s.blacks,
+            empties: s.empties + 1,
+            sum: s.sum,
+        };
+    }
+    Scan {
+        blacks: s.blacks,
+        empties: s.empties,
+        sum: s.sum + wide(c),
+    }
+}
+
+pub fn scan_line(cells: &[u8], start: usize, stride: usize, n: usize) -> Scan
+    requires { ⌜ Within start stride n (length (now cells)) ⌝ }
+    ensures { λ r. ⌜ Seen r (strided start stride (now (cells .entry)) n) ⌝ }
+{
+    let mut s = Scan {
+        blacks: 0,
+        empties: 0,
+        sum: 0,
+    };
+    let mut j = 0;
+    while j < n {
+        let at = start + j * stride;
+        s = add_cell(s, cells[at]);
+        j += 1;
+    }
+    s
+}
+
+// The number that a line is refused by, or 0.
+fn line_refusal(cells: &[u8], start: usize, stride: usize, n: usize) -> u8
+    requires { ⌜ Within start stride n (length (now cells)) ⌝ }
+    ensures { λ r. ⌜ r ≡ refusal (checkLine (strided start stride (now (cells .entry)) n)) ⌝ }
+{
+    let s = scan_line(cells, start, stride, n);
+    if s.blacks != 2 {
+        return 8;
+    }
+    if s.empties != 0 {
+        return 9;
+    }
+    if 255 < s.sum {
+        return 10;
+    }
+    0
+}
+
+// The number that n lines, which start at 0, step, 2 step, .., are refused by, or 0.
+pub fn lines_refusal(cells: &[u8], step: usize, stride: usize, n: usize) -> u8
+    requires { ⌜ AllWithin step stride n (length (now cells)) ⌝ }
+    ensures { λ r. ⌜ r ≡ refusal (join (each checkLine step stride (now (cells .entry)) n n)) ⌝ }
+{
+    let mut i = 0;
+    while i < n {
+        let k = line_refusal(cells, i * step, stride, n);
+        if k != 0 {
+            return k;
+        }
+        i += 1;
+    }
+    0
+}
+
+fn line_sum(cells: &[u8], start: usize, stride: usize, n: usize) -> u8
+    requires { ⌜ (Within start stride n (length (now cells))) × (lineSum (strided start stride (now cells) n) ≤ 255) ⌝ }
+    ensures { λ r. ⌜ r ≡ lineSum (strided start stride (now (cells .entry)) n) ⌝ }
+{
+    let s = scan_line(cells, start, stride, n);
+    s.sum as u8
+}
+
+fn put_sums(cells: &[u8], step: usize, stride: usize, n: usize, out: &mut [u8])
+    requires { ⌜ Ready step stride (now cells) n (length (now out)) ⌝ }
+    ensures { λ _. ⌜ now (out .exit) ≡ each lineSum step stride (now (cells .entry)) n n ⌝ }
+{
+    let mut i = 0;
+    while i < n {
+        out[i] = line_sum(cells, i * step, stride, n);
+        i += 1;
+    }
+}
+
+// The number that the input is refused by, or 0.
+fn sums_refusal(n: usize, cells: &[u8], rows: usize, columns: usize) -> u8
+    ensures { λ r. ⌜ r ≡ refusal (sumsChecks n (now (cells .entry)) rows columns) ⌝ }
+{
+    if !size_fits(n) {
+        return 1;
+    }
+    if cells.len() != n * n {
+        return 7;
+    }
+    if !targets_fit(n, rows, columns) {
+        return 2;
+    }
+    let k = lines_refusal(cells, n, 1, n);
+    if k != 0 {
+        return k;
+    }
+    lines_refusal(cells, 1, n, n)
+}
+
+// The target sums of the cells, rows then columns, written where nothing is refused.
+pub fn compute_targets(size: usize, cells: &[u8], rows: &mut [u8], columns: &mut [u8]) -> Summed
+    ensures { λ r. ⌜ Answered (targetSums size (now (cells .entry)) (now (rows .entry)) (now (columns .entry))) r (now (rows .exit)) (now (columns .exit)) ⌝ }
+{
+    let k = sums_refusal(size, cells, rows.len(), columns.len());
+    if k != 0 {
+        return Summed::Refused(k);
+    }
+    put_sums(cells, size, 1, size, rows);
+    put_sums(cells, 1, size, size, columns);
+    Summed::Done
+}
+
+// The number of an answer, for hosts.
+pub fn number(answer: Summed) -> u8
+    ensures { λ r. ⌜ r ≡ numberOf answer ⌝ }
+{
+    match answer {
+        Summed::Refused(k) => k,
+        Summed::Done => 0,
+    }
+}
