@@ -7,14 +7,14 @@ use Rattle.rules.specs.Grid.{Puzzle}
 use Rattle.rules.specs.Mark.{marksOf}
 use Rattle.rules.specs.Check.{refusal, markChecks}
 use Rattle.table.specs.Steps.{markedAll}
-use Rattle.soundness.specs.Marks.{Accepted}
+use Rattle.soundness.specs.Marks.{AcceptedMark}
 use Rattle.slab.specs.Slab.{tableIn}
 use Rattle.invariants.specs.State.{Kept, Lagging}
 
 -- A state, and a mark of its size.
 pub record MarkAsk (n : ℕ) (l : List ℕ) (m : ℕ) : Type 0 where
   pub lagging : Lagging n l 0
-  pub accepted : Accepted n m
+  pub accepted : AcceptedMark n m
 
 -- A state, and the bytes of marks that are not refused.
 pub record MarksAsk (n : ℕ) (l bytes : List ℕ) : Type 0 where

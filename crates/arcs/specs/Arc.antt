@@ -6,12 +6,13 @@ use mathlib.Core.Bool.{Bool, true, false, cond}
 use mathlib.Core.List.{List, List·Memᴰ}
 use lib.Dec.{ltb}
 use lib.ListN.{length, getD}
-use Rattle.bits.specs.Sum.{sum}
+use Rattle.bits.specs.Sum.{sumOver}
 use Rattle.rules.specs.Grid.{Line, across, down}
 use Rattle.table.specs.Table.{places}
 use Rattle.table.specs.Closed.{place, allows}
 use Rattle.slab.specs.Slab.{cand, lag, tableIn}
-use Rattle.slab.specs.Ready.{ValueOf, Ready, Next, Moved}
+use Rattle.slab.specs.Ready.{Ready, Next, Moved}
+use Rattle.table.specs.Value.{ValueOf}
 use Rattle.words.specs.Word.{Known, arrangementOf, wordOf, part, Words}
 
 -- ---- lines by number: the rows are 0 to 8, the columns 9 to 17
@@ -33,8 +34,8 @@ unfoldable pub LineOf : ℕ → ℕ → Type 0
 LineOf n ℓ = (ℓ < n) ⊎ ((9 ≤ ℓ) × (ℓ < 9 + n))
 
 -- A value of the half whose first black is k: a digit, or one of the line's own blacks.
-unfoldable pub InHalf : ℕ → ℕ → Type 0
-InHalf k v = (v < 8) ⊎ ((k ≤ v) × (v < k + 2))
+unfoldable pub HalfOf : ℕ → ℕ → Type 0
+HalfOf k v = (v < 8) ⊎ ((k ≤ v) × (v < k + 2))
 
 -- ---- the counters: how many arrangements of line ℓ are live, which they are, and how many of them have the value v at place p: support l (ℓ * 9 + p) v
 
@@ -53,8 +54,8 @@ support l y v = getD l (3007 + y * 16 + v) 0
 pub record Tallied (n ℓ len : ℕ) (l : List ℕ) : Type 0 where
   pub room : len ≤ 78
   pub known : (j : ℕ) → j < len → Known n (live l ℓ j)
-  pub supports : (p v : ℕ) → p < 9 → v < 16 → support l (ℓ * 9 + p) v ≡ sum 0 len (λ (j : ℕ). part (blackAt ℓ) (wordOf n (live l ℓ j)) p v)
-  pub backed : (p v : ℕ) → p < n → v < 16 → InHalf (blackAt ℓ) v → support l (ℓ * 9 + p) v ≡ 0 → cand l (cellAt ℓ p) v ≡ 0
+  pub supports : (p v : ℕ) → p < 9 → v < 16 → support l (ℓ * 9 + p) v ≡ sumOver 0 len (λ (j : ℕ). part (blackAt ℓ) (wordOf n (live l ℓ j)) p v)
+  pub backed : (p v : ℕ) → p < n → v < 16 → HalfOf (blackAt ℓ) v → support l (ℓ * 9 + p) v ≡ 0 → cand l (cellAt ℓ p) v ≡ 0
 
 -- Place p has a value of the arrangement's pattern that is a candidate, or whose strike waits from h on.
 pub record Served (n ℓ : ℕ) (l : List ℕ) (h id p : ℕ) : Type 0 where
@@ -75,11 +76,11 @@ pub record Arc (n ℓ : ℕ) (l : List ℕ) (h : ℕ) : Type 0 where
 -- ---- why arrangements and candidates go
 
 -- No grid of the table has the arrangement: a cell of it has no candidate of the pattern, or a digit of its set has no cell.
-pub data Dead (n ℓ : ℕ) (l : List ℕ) (id : ℕ) : Type 0 where
+pub data DeadArrangement (n ℓ : ℕ) (l : List ℕ) (id : ℕ) : Type 0 where
   emptied : (j : ℕ) → j < length (arrangementOf n id .digitSet) + 2 →
-      ((v : ℕ) → allows (blackAt ℓ) (arrangementOf n id) j v ≡ true → places (tableIn l) (lineAt ℓ) (place n (arrangementOf n id) j) v ≡ false) → Dead n ℓ l id
+      ((v : ℕ) → allows (blackAt ℓ) (arrangementOf n id) j v ≡ true → places (tableIn l) (lineAt ℓ) (place n (arrangementOf n id) j) v ≡ false) → DeadArrangement n ℓ l id
   unplaced : (d : ℕ) → List·Memᴰ d (arrangementOf n id .digitSet) →
-      ((j : ℕ) → j < length (arrangementOf n id .digitSet) + 2 → places (tableIn l) (lineAt ℓ) (place n (arrangementOf n id) j) d ≡ false) → Dead n ℓ l id
+      ((j : ℕ) → j < length (arrangementOf n id .digitSet) + 2 → places (tableIn l) (lineAt ℓ) (place n (arrangementOf n id) j) d ≡ false) → DeadArrangement n ℓ l id
 
 -- An arrangement is among the first len of the list.
 pub record Listed (ℓ len : ℕ) (l : List ℕ) (id : ℕ) : Type 0 where
@@ -89,7 +90,7 @@ pub record Listed (ℓ len : ℕ) (l : List ℕ) (id : ℕ) : Type 0 where
 
 -- Whatever was live still is, or is dead.
 unfoldable pub Fewer : ℕ → ℕ → ℕ → List ℕ → ℕ → List ℕ → Type 0
-Fewer n ℓ len l len′ l′ = (j : ℕ) → j < len → Listed ℓ len′ l′ (live l ℓ j) ⊎ Dead n ℓ l′ (live l ℓ j)
+Fewer n ℓ len l len′ l′ = (j : ℕ) → j < len → Listed ℓ len′ l′ (live l ℓ j) ⊎ DeadArrangement n ℓ l′ (live l ℓ j)
 
 -- Whatever is live was live.
 unfoldable pub Older : ℕ → ℕ → List ℕ → ℕ → List ℕ → Type 0
@@ -99,12 +100,12 @@ Older ℓ len l len′ l′ = (j : ℕ) → j < len′ → Listed ℓ len l (liv
 -- since its own death struck the candidates: they do not show by themselves that no grid is lost. `Holding` does: K will be the candidates of a grid.)
 -- No table that has all candidates of K lets the arrangement die.
 unfoldable pub Held : ℕ → ℕ → (ℕ → ℕ → Bool) → ℕ → Type 0
-Held n ℓ K id = (l : List ℕ) → ((x v : ℕ) → v < 16 → K x v ≡ true → cand l x v ≡ 1) → Dead n ℓ l id → ⊥
+Held n ℓ K id = (l : List ℕ) → ((x v : ℕ) → v < 16 → K x v ≡ true → cand l x v ≡ 1) → DeadArrangement n ℓ l id → ⊥
 
 -- The first len of the list hold K: the table has all of K, and what K has in the line lies in one of them that K does not let die.
 pub record Holding (n ℓ len : ℕ) (l : List ℕ) (K : ℕ → ℕ → Bool) : Type 0 where
   pub has : (x v : ℕ) → v < 16 → K x v ≡ true → cand l x v ≡ 1
-  pub uses : (p v : ℕ) → p < n → v < 16 → InHalf (blackAt ℓ) v → K (cellAt ℓ p) v ≡ true →
+  pub uses : (p v : ℕ) → p < n → v < 16 → HalfOf (blackAt ℓ) v → K (cellAt ℓ p) v ≡ true →
       (j : ℕ) × (j < len) × (part (blackAt ℓ) (wordOf n (live l ℓ j)) p v ≡ 1) × Held n ℓ K (live l ℓ j)
 
 -- The value v of the cell x lies in no live arrangement of one of its lines.
@@ -114,7 +115,7 @@ pub record Unsupported (n : ℕ) (l : List ℕ) (x v : ℕ) : Type 0 where
   pub at : ℕ
   pub within : at < n
   pub there : x ≡ cellAt line at
-  pub half : InHalf (blackAt line) v
+  pub half : HalfOf (blackAt line) v
   pub none : support l (line * 9 + at) v ≡ 0
 
 -- From l to l′ arrangements died, and candidates were struck that had no support left.

@@ -1,13 +1,14 @@
 -- The tests of the sweep for a digit: which places of the line still have it, and whether an arrangement outlives the strike. Assumes nothing.
-use Prim.Native.Nat.{ℕ, _+_, _*_, _≤_, _<_}
+use Prim.Native.Nat.{ℕ, _+_, _*_, _≤_, _<_, _^_}
 use mathlib.Core.Path.{_≡_}
 use mathlib.Core.Logic.{_⊎_}
-use mathlib.Core.Bool.{Bool, true, false}
+use mathlib.Core.Bool.{Bool, true, false, cond}
 use mathlib.Core.List.{List}
-use lib.Bits.{bitAnd}
+use lib.Bits.{bitAnd, bitOr}
 use lib.ListN.{length, getD}
 use Rattle.bits.specs.Bit.{bit}
 use Rattle.words.specs.Word.{setOf, coveredOf}
+use lib.Dec.{eqb}
 
 -- A line of n places, from its start on.
 pub record HaveAsk (n start stride v : ℕ) (l : List ℕ) : Type 0 where
@@ -25,3 +26,11 @@ Have start stride v l p have = (q : ℕ) → q < p → bit v (getD l (start + q 
 pub record Tested (w test have cands : ℕ) (r : Bool) : Type 0 where
   pub keeps : r ≡ true → (bitAnd w test ≡ test → ⊥) ⊎ ((bitAnd w test ≡ test) × (bitAnd cands (setOf w) ≡ 0 → ⊥))
   pub drops : r ≡ false → (bitAnd w test ≡ test) × ((bitAnd (coveredOf w) have ≡ 0) ⊎ (bitAnd cands (setOf w) ≡ 0))
+
+-- The bits of digit v and of the inner place p.
+abbrev pub testOf : ℕ → ℕ → ℕ
+testOf v p = bitOr (2 ^ v) (2 ^ (8 + p))
+
+-- The bit at which the place of the black v begins, in a line with first black k.
+unfoldable pub shiftOf : ℕ → ℕ → ℕ
+shiftOf k v = cond (eqb v k) 17 21

@@ -4,7 +4,7 @@ use mathlib.Core.Path.{_≡_}
 use mathlib.Core.List.{List}
 use Rattle.bits.specs.Bit.{bit}
 use Rattle.bits.specs.Sum.{same}
-use Rattle.rules.specs.SizeLaws.{Size}
+use Rattle.rules.specs.Size.{Size}
 use Rattle.slab.specs.Slab.{Sized}
 use Rattle.words.specs.Word.{setOf, innerOf, part, Shaped}
 use Rattle.arcs.specs.Arc.{cellAt, blackAt, support}

@@ -9,14 +9,14 @@ use Rattle.slab.specs.Slab.{cand, Sized, Grown}
 use Rattle.arcs.specs.Arc.{cellAt, support}
 
 -- The cell of the place y of a line: y is line * 9 + place.
-unfoldable pub cellOf : ℕ → ℕ
-cellOf y = cellAt (y / 9) (y % 9)
+unfoldable pub cellOfPlace : ℕ → ℕ
+cellOfPlace y = cellAt (y / 9) (y % 9)
 
 -- A candidate was struck since the support of one of its places fell to 0.
 pub record Lost (D : ℕ → ℕ → ℕ) (l : List ℕ) (x v : ℕ) : Type 0 where
   pub slot : ℕ
   pub within : slot < 162
-  pub there : x ≡ cellOf slot
+  pub there : x ≡ cellOfPlace slot
   pub fell : 0 < D slot v
   pub none : support l slot v ≡ 0
 
@@ -25,7 +25,7 @@ pub record Sunk (D : ℕ → ℕ → ℕ) (l l′ : List ℕ) : Type 0 where
   pub grown : Grown l l′
   pub rest : (i : ℕ) → 973 ≤ i → i < 3007 → getD l′ i 0 ≡ getD l i 0
   pub falls : (y v : ℕ) → y < 162 → v < 16 → support l′ y v + D y v ≡ support l y v
-  pub backed : (y v : ℕ) → y < 162 → v < 16 → 0 < D y v → support l′ y v ≡ 0 → cand l′ (cellOf y) v ≡ 0
+  pub backed : (y v : ℕ) → y < 162 → v < 16 → 0 < D y v → support l′ y v ≡ 0 → cand l′ (cellOfPlace y) v ≡ 0
   pub only : (x v : ℕ) → v < 16 → cand l x v ≡ 1 → cand l′ x v ≡ 0 → Lost D l′ x v
 
 -- One value of one place.
@@ -39,12 +39,12 @@ masked place mask y v = min (same y place) (bit v mask)
 pub record DropAsk (l : List ℕ) (place cell v : ℕ) : Type 0 where
   pub sized : Sized l
   pub within : place < 162
-  pub there : cell ≡ cellOf place
+  pub there : cell ≡ cellOfPlace place
   pub value : v < 16
   pub positive : 0 < support l place v
 
 pub record DigitsAsk (l : List ℕ) (place cell mask : ℕ) : Type 0 where
   pub sized : Sized l
   pub within : place < 162
-  pub there : cell ≡ cellOf place
+  pub there : cell ≡ cellOfPlace place
   pub enough : (v : ℕ) → v < 16 → bit v mask ≤ support l place v

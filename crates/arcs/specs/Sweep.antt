@@ -8,7 +8,7 @@ use lib.ListN.{getD}
 use Rattle.slab.specs.Slab.{cand, Grown}
 use Rattle.slab.specs.Ready.{Ready, Next}
 use Rattle.words.specs.Word.{wordOf, part, Words}
-use Rattle.arcs.specs.Arc.{cellAt, blackAt, LineOf, InHalf, lives, live, support, Tallied, Alive, Fewer, Older, Holding, Unsupported}
+use Rattle.arcs.specs.Arc.{cellAt, blackAt, LineOf, HalfOf, lives, live, support, Tallied, Alive, Fewer, Older, Holding, Unsupported}
 use Rattle.arcs.specs.Kill.{Placed}
 
 -- ---- one arrangement leaves
@@ -27,11 +27,11 @@ pub record UnsupportedIn (n ℓ : ℕ) (l : List ℕ) (x v : ℕ) : Type 0 where
   pub at : ℕ
   pub within : at < n
   pub there : x ≡ cellAt ℓ at
-  pub half : InHalf (blackAt ℓ) v
+  pub half : HalfOf (blackAt ℓ) v
   pub none : support l (ℓ * 9 + at) v ≡ 0
 
 -- Besides the list and the supports of line ℓ nothing moves but strikes, supports only fall, and what is struck has none.
-pub record Within (n ℓ : ℕ) (l l′ : List ℕ) : Type 0 where
+pub record LineMoved (n ℓ : ℕ) (l l′ : List ℕ) : Type 0 where
   pub grown : Grown l l′
   pub rest : (k : ℕ) → 973 ≤ k → k < 3007 → (k < 1603 + ℓ * 78) ⊎ (1681 + ℓ * 78 ≤ k) → getD l′ k 0 ≡ getD l k 0
   pub others : (y v : ℕ) → y < 162 → v < 16 → (y / 9 ≡ ℓ → ⊥) → support l′ y v ≡ support l y v
@@ -40,7 +40,7 @@ pub record Within (n ℓ : ℕ) (l l′ : List ℕ) : Type 0 where
 
 -- The arrangement at i is gone, and the one at len is in its place. What stands behind the len that are left is not said.
 pub record Removed (n ℓ i len : ℕ) (l l′ : List ℕ) : Type 0 where
-  pub within : Within n ℓ l l′
+  pub within : LineMoved n ℓ l l′
   pub here : live l′ ℓ i ≡ live l ℓ len
   pub stays : (j : ℕ) → j < len → (j ≡ i → ⊥) → live l′ ℓ j ≡ live l ℓ j
   pub tallied : Tallied n ℓ len l′
@@ -48,9 +48,9 @@ pub record Removed (n ℓ i len : ℕ) (l l′ : List ℕ) : Type 0 where
 -- ---- the sweep
 
 -- The arrangement outlives the strike of the value v at place p: it has not that value there, or has another that is a candidate.
-pub data Kept (n ℓ : ℕ) (l : List ℕ) (p v id : ℕ) : Type 0 where
-  untouched : part (blackAt ℓ) (wordOf n id) p v ≡ 0 → Kept n ℓ l p v id
-  served : (u : ℕ) → u < 16 → part (blackAt ℓ) (wordOf n id) p u ≡ 1 → cand l (cellAt ℓ p) u ≡ 1 → Kept n ℓ l p v id
+pub data Outlives (n ℓ : ℕ) (l : List ℕ) (p v id : ℕ) : Type 0 where
+  untouched : part (blackAt ℓ) (wordOf n id) p v ≡ 0 → Outlives n ℓ l p v id
+  served : (u : ℕ) → u < 16 → part (blackAt ℓ) (wordOf n id) p u ≡ 1 → cand l (cellAt ℓ p) u ≡ 1 → Outlives n ℓ l p v id
 
 -- Those before i are alive at h + 1, those from i on at h.
 pub record Aging (n ℓ : ℕ) (l : List ℕ) (h i len : ℕ) : Type 0 where
@@ -70,14 +70,14 @@ pub record SweepAsk (n line start stride first p v : ℕ) (ws l : List ℕ) : Ty
   pub black : first ≡ blackAt line
   pub place : p < n
   pub narrow : v < 16
-  pub half : InHalf (blackAt line) v
+  pub half : HalfOf (blackAt line) v
   pub gone : cand l (cellAt line p) v ≡ 0
   pub tallied : Tallied n line (lives l line) l
 
 -- The first i of len arrangements are swept.
 pub record Sweeping (n ℓ p v : ℕ) (l₀ l : List ℕ) (i len : ℕ) : Type 0 where
   pub among : i ≤ len
-  pub within : Within n ℓ l₀ l
+  pub within : LineMoved n ℓ l₀ l
   pub tallied : Tallied n ℓ len l
   pub fewer : Fewer n ℓ (lives l₀ ℓ) l₀ len l
   pub older : Older ℓ (lives l₀ ℓ) l₀ len l

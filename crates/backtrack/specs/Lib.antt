@@ -1,4 +1,1 @@
 pub mod Search
-pub mod AdvanceLaws
-pub mod BranchLaws
-pub mod SearchLaws

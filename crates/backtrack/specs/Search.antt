@@ -8,11 +8,11 @@ use lib.ListN.{length}
 use Rattle.rules.specs.Grid.{Puzzle}
 use Rattle.table.specs.Table.{left, fits}
 use Rattle.table.specs.Reading.{readOff}
-use Rattle.line_laws.specs.GridLines.{GridOf}
+use Rattle.line_laws.specs.Grids.{GridOf}
 use Rattle.soundness.specs.SameGrids.{SameGrids, Within}
 use Rattle.slab.specs.Slab.{tableIn}
 use Rattle.slab.specs.Ready.{Ready}
-use Rattle.invariants.specs.State.{Kept, Propagable}
+use Rattle.invariants.specs.State.{Kept, PropagateAsk}
 use Rattle.pick.specs.Choice.{Branch}
 use Rattle.backtrack.specs.declared.Next.{Next}
 use Rattle.backtrack.specs.declared.Next.the-variants.{Contradicted, Settled}
@@ -33,7 +33,7 @@ pub record OneLeft (n : ℕ) (l l′ : List ℕ) : Type 0 where
 -- A state with a choice: no grid is lost, and it may be branched on.
 pub record Branching (n : ℕ) (ws l l′ : List ℕ) (x v : ℕ) : Type 0 where
   pub size : length l′ ≡ length l
-  pub propagable : Propagable n ws l′
+  pub propagable : PropagateAsk n ws l′
   pub within : Within n (tableIn l′) (tableIn l)
   pub kept : (p : Puzzle) → p .size ≡ n → Kept p l → Kept p l′
   pub same : (p : Puzzle) → p .size ≡ n → Kept p l → SameGrids p (tableIn l) (tableIn l′)
@@ -51,7 +51,7 @@ Advanced n ws l l′ Settled = OneLeft n l l′
 Advanced n ws l l′ (next.Branch x v) = Branching n ws l l′ x v
 
 -- What the end of a branch asks and gives.
-pub record Settling (n : ℕ) (l : List ℕ) (settled wanted : Bool) (room : ℕ) : Type 0 where
+pub record SettleAsk (n : ℕ) (l : List ℕ) (settled wanted : Bool) (room : ℕ) : Type 0 where
   pub ready : settled ≡ true → Ready n l
   pub fits : wanted ≡ true → room ≡ n * n
 
@@ -62,8 +62,8 @@ pub record SettledAs (n : ℕ) (l : List ℕ) (settled wanted : Bool) (r : ℕ) 
   pub written : settled ≡ true → wanted ≡ true → cells′ ≡ readOff n (tableIn l)
 
 -- A state that may be searched, with room for the grid if it is wanted.
-pub record Searchable (n : ℕ) (ws l : List ℕ) (wanted : Bool) (room : ℕ) : Type 0 where
-  pub propagable : Propagable n ws l
+pub record SearchAsk (n : ℕ) (ws l : List ℕ) (wanted : Bool) (room : ℕ) : Type 0 where
+  pub propagable : PropagateAsk n ws l
   pub fits : wanted ≡ true → room ≡ n * n
 
 -- The count of the grids that fit, under a cap; the cells hold one of them if it was wanted and there is one, else they are as they were.

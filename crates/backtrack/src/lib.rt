@@ -12,8 +12,8 @@ ghost use mathlib.Core.Bool.{_&&_};
 ghost use Prim.Native.Nat.{_*_};
 ghost use lib.Dec.{eqb};
 ghost use lib.ListN.{length};
-ghost use Rattle.invariants.specs.State.{Propagable};
-ghost use Rattle.backtrack.specs.Search.{Advanced, Searchable, Searched, Settling, SettledAs};
+ghost use Rattle.invariants.specs.State.{PropagateAsk};
+ghost use Rattle.backtrack.specs.Search.{Advanced, SearchAsk, Searched, SettleAsk, SettledAs};
 
 pub enum Next {
     Contradicted,
@@ -23,7 +23,7 @@ pub enum Next {
 
 // Propagates; then the candidate to branch on, if there is a choice.
 fn advance(st: &mut [u16], words: &[u32], n: usize) -> Next
-    requires { ⌜ Propagable n (now words) (now st) ⌝ }
+    requires { ⌜ PropagateAsk n (now words) (now st) ⌝ }
     ensures { λ r. ⌜ Advanced n (now (words .entry)) (now (st .entry)) (now (st .exit)) r ⌝ }
 {
     if !propagate(st, words, n) {
@@ -45,7 +45,7 @@ fn is_first(wanted: bool, found: u64) -> bool
 
 // The end of a branch: no grid, or the one of a settled table, which is written if it is wanted.
 fn settle(st: &[u16], n: usize, settled: bool, wanted: bool, cells: &mut [u8]) -> u64
-    requires { ⌜ Settling n (now st) settled wanted (length (now cells)) ⌝ }
+    requires { ⌜ SettleAsk n (now st) settled wanted (length (now cells)) ⌝ }
     ensures { λ r. ⌜ SettledAs n (now (st .entry)) settled wanted r (now (cells .entry)) (now (cells .exit)) ⌝ }
 {
     if !settled {
@@ -66,7 +66,7 @@ pub fn search(
     wanted: bool,
     cells: &mut [u8],
 ) -> u64
-    requires { ⌜ Searchable n (now words) (now st) wanted (length (now cells)) ⌝ }
+    requires { ⌜ SearchAsk n (now words) (now st) wanted (length (now cells)) ⌝ }
     ensures { λ r. ⌜ Searched n (now (st .entry)) max wanted r (now (cells .entry)) (now (cells .exit)) ⌝ }
 {
     let mut found = 0u64;

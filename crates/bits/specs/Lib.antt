@@ -1,4 +1,2 @@
 pub mod Bit
-pub mod BitLaws
 pub mod Sum
-pub mod SumLaws

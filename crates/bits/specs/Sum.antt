@@ -4,9 +4,9 @@ use mathlib.Core.Bool.{cond}
 use lib.Dec.{eqb}
 
 -- f a + f (a + 1) + .. , n of them.
-unfoldable pub sum : ℕ → ℕ → (ℕ → ℕ) → ℕ
-sum a zero f = 0
-sum a (suc n) f = sum a n f + f (a + n)
+unfoldable pub sumOver : ℕ → ℕ → (ℕ → ℕ) → ℕ
+sumOver a zero f = 0
+sumOver a (suc n) f = sumOver a n f + f (a + n)
 
 -- 1 where a is b, else 0.
 unfoldable pub same : ℕ → ℕ → ℕ

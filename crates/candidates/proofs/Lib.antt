@@ -1,2 +1,4 @@
 -- Facts computed from `Remaining`.
 mod RemainingFacts
+mod RemainingLaws
+mod SameClosed

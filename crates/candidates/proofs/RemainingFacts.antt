@@ -7,20 +7,19 @@ use native.Mathlib.Omega.{arith}
 use lib.Dec.{eqb}
 use borrow.Author.Tests.{not-true}
 use Rattle.tally.specs.Tally.{span, sum, all, any, count, inFront, ways}
-use Rattle.tally.specs.TallyLaws.{and-left, and-right}
-use Rattle.tally.specs.WayLaws.{all-each, all-ways, way-map}
-use Rattle.rules.specs.Line.{digits, lawful, untilBlack, inside, lineSum, meets, keepsLine}
-use Rattle.rules.specs.Grid.{cell, row, column, line, lines, Puzzle, target, keeps}
+use Rattle.tally.proofs.TallyLaws.{and-left, and-right}
+use Rattle.tally.proofs.WayLaws.{all-each, all-ways, way-map}
+use Rattle.rules.specs.Grid.{digits, lawful, untilBlack, inside, lineSum, meets, keepsLine, cell, row, column, line, lines, Puzzle, target, keeps}
 use Rattle.rules.specs.Mark.{rejects, markRow, markColumn, markValue, leftBlack, blackWith, has, keepsMark, keepsMarks}
 use Rattle.rules.specs.Number.{symbols, grids, solves}
-use Rattle.rules.specs.Samples.{three}
-use Rattle.table.specs.Table.{Table, places, firstBlack, half, everyValue, own, fits, bitOf, hasBit, tableOf}
+use Rattle.rules.proofs.Samples.{three}
+use Rattle.table.specs.Table.{Table, places, firstBlack, half, everyValue, own, fits, bitOf, hasBit, tableOf, sameHalf}
 use Rattle.table.specs.Closed.{Closed}
 use Rattle.table.proofs.Decides.{Decides, implies, is, equal, if-then, each, each-below}
 use Rattle.table.proofs.ClosedFacts.{full, settled, falling, rising, bothGrids}
 use Rattle.table.proofs.ClosedFacts as small
-use Rattle.line_laws.specs.Lists.{any-in, false-of}
-use Rattle.candidates.specs.Remaining.{sameHalf, Remaining}
+use Rattle.line_laws.proofs.Lists.{any-in, false-of}
+use Rattle.candidates.specs.Remaining.{Remaining}
 
 -- Each way to fill the cells that keeps the puzzle and the marks fits the table.
 unfoldable gridsTest : Puzzle → List ℕ → Table → Bool

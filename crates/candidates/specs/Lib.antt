@@ -1,3 +1,1 @@
 pub mod Remaining
-pub mod SameClosed
-pub mod RemainingLaws

@@ -2,7 +2,7 @@
 -- open. Assumes nothing.
 use Prim.Native.Nat.{ℕ, _*_, _<_}
 use mathlib.Core.Path.{_≡_}
-use mathlib.Core.Bool.{Bool, true, false, _&&_, _||_}
+use mathlib.Core.Bool.{Bool, true, false}
 use mathlib.Core.Logic.{_≢_, _⊎_}
 use mathlib.Core.List.{List, List·Memᴰ}
 use lib.ListN.{length}
@@ -10,17 +10,11 @@ use Rattle.tally.specs.Tally.{any}
 use Rattle.rules.specs.Grid.{Puzzle, cell}
 use Rattle.rules.specs.Mark.{rejects, markRow, markColumn, markValue}
 use Rattle.rules.specs.Check.{refusal, solveChecks}
-use Rattle.rules.specs.Number.{number}
-use Rattle.number.specs.VerdictLaws.{Solution}
-use Rattle.table.specs.Table.{Table, everyValue, fits, bitOf, hasBit, tableOf}
-use Rattle.table.specs.Steps.{inRow, inColumn}
+use Rattle.rules.specs.Number.{number, Solution}
+use Rattle.table.specs.Table.{Table, everyValue, fits, bitOf, hasBit, tableOf, sameHalf}
 use Rattle.table.specs.Closed.{Closed}
 use Rattle.candidates.specs.declared.Outcome.{Outcome}
 use Rattle.candidates.specs.declared.Outcome.the-variants.{Refused, Contradicted, Written}
-
--- Two values stand in the same half of a cell; a digit stands in both halves.
-abbrev pub sameHalf : ℕ → ℕ → Bool
-sameHalf v w = (inRow v && inRow w) || (inColumn v && inColumn w)
 
 -- What a table owes a puzzle and marks.
 pub record Remaining (p : Puzzle) (ms : List ℕ) (t : Table) : Type 0 where

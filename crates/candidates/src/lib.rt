@@ -5,8 +5,8 @@ use propagate::propagate;
 use written::write_candidates;
 ghost use lib.ListN.{length};
 ghost use Rattle.rules.specs.Mark.{marksOf};
-ghost use Rattle.puzzle.specs.Given.{puzzle};
-ghost use Rattle.engine.specs.Solve.{SolveAsk};
+ghost use Rattle.rules.specs.Grid.{puzzle};
+ghost use Rattle.engine.specs.Answer.{SolveAsk};
 ghost use Rattle.candidates.specs.Remaining.{TableGiven, Tabled};
 
 pub enum Outcome {

@@ -6,13 +6,13 @@ use mathlib.Core.List.{List, [], _∷_, _++_, List·Permᴰ}
 use lib.Dec.{eqb}
 use borrow.Author.Tests.{eqb-true, eq-eqb}
 use Rattle.tally.specs.Tally.{all, join}
-use Rattle.tally.specs.TallyLaws.{and-left, and-right, and-both, all-less, all-perm}
+use Rattle.tally.proofs.TallyLaws.{and-left, and-right, and-both, all-less, all-perm}
 use Rattle.rules.specs.Grid.{Puzzle}
 use Rattle.rules.specs.Check.{refusal, checkMark, markChecks, puzzleChecks, countChecks, checkBuffer, solveChecks}
-use Rattle.rules.specs.CheckLaws.{refusal-skip, refusal-none-left, refusal-none-right, numbered-append}
-use Rattle.puzzle.specs.PuzzleLaws.{puzzle-numbered}
-use Rattle.mark_list.specs.MarkLaws.{mark-numbered}
-use Rattle.engine.specs.SolveLaws.{marks-numbered}
+use Rattle.rules.proofs.CheckLaws.{refusal-skip, refusal-none-left, refusal-none-right, numbered-append}
+use Rattle.puzzle.proofs.PuzzleLaws.{puzzle-numbered}
+use Rattle.mark_list.proofs.MarkLaws.{mark-numbered}
+use Rattle.engine.proofs.SolveLaws.{marks-numbered}
 
 -- A mark passes its own checks.
 unfoldable pub passes : ℕ → ℕ → Bool

@@ -11,9 +11,8 @@ use Rattle.number.specs.NumberLaws.{number-order, number-more, number-repeat}
 use Rattle.number.specs.VerdictLaws.{verdict-none, verdict-one, verdict-capped}
 use Rattle.engine.specs.declared.Counted.the-variants.{Count}
 use Rattle.engine.specs.declared.Solved.the-variants.{Unsolvable, Unique}
-use Rattle.engine.specs.Answer.{countAnswer}
-use Rattle.engine.specs.Solve.{solvedAs, solveAnswer}
-use Rattle.engine.specs.SolveLaws.{solve-count}
+use Rattle.engine.specs.Answer.{countAnswer, solvedAs, solveAnswer}
+use Rattle.engine.proofs.SolveLaws.{solve-count}
 use Rattle.corollaries.specs.Acceptance.{solve-accepted, order-passes, less-passes}
 use Rattle.corollaries.specs.CountLaws.{answer-counted}
 

@@ -6,12 +6,12 @@ use mathlib.Core.Logic.{_≢_}
 use mathlib.Core.List.{List}
 use lib.Dec.{ltb}
 use lib.ListN.{getD}
-use Rattle.bits.specs.Sum.{sum}
+use Rattle.bits.specs.Sum.{sumOver}
 use Rattle.rules.specs.Grid.{Line, across, down}
 use Rattle.rules.specs.Mark.{leftBlack, upperBlack}
-use Rattle.table.specs.Steps.{inRow, inColumn}
+use Rattle.table.specs.Table.{inColumn, inRow}
 use Rattle.slab.specs.Slab.{cand, lag, Grown}
-use Rattle.slab.specs.Ready.{ValueOf}
+use Rattle.table.specs.Value.{ValueOf}
 use Rattle.set_cell.specs.Setting.{SetHit}
 
 -- Counter i stands at place base + i and counts n candidates: candidate j is the value (value i j) of the cell at place (cell i j).
@@ -26,7 +26,7 @@ pub record Fam : Type 1 where
 
 -- Each used counter is the sum of the lags of its candidates, the strikes before h being handled; where it is at most low, its rule holds.
 pub record Ruled (F : Fam) (low : ℕ) (Rule : List ℕ → ℕ → Type 0) (n : ℕ) (l : List ℕ) (h : ℕ) : Type 0 where
-  pub counts : (i : ℕ) → F .used n i → getD l (F .base + i) 0 ≡ sum 0 (F .n) (λ (j : ℕ). lag l h (F .cell i j) (F .value i j))
+  pub counts : (i : ℕ) → F .used n i → getD l (F .base + i) 0 ≡ sumOver 0 (F .n) (λ (j : ℕ). lag l h (F .cell i j) (F .value i j))
   pub rule : (i : ℕ) → F .used n i → getD l (F .base + i) 0 ≤ low → Rule l i
 
 -- The counter at p fell by one; besides it and strikes nothing moved.

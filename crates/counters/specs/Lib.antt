@@ -1,5 +1,1 @@
 pub mod Counters
-pub mod CounterLaws
-pub mod Families
-pub mod Lines
-pub mod Closure

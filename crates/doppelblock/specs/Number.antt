@@ -1,7 +1,7 @@
 -- What the exported calls give to a host: numbers. Assumes nothing.
-use Prim.Native.Nat.{ℕ}
+use Prim.Native.Nat.{ℕ, _+_, _*_, _%_}
 use mathlib.Core.Path.{_≡_}
-use mathlib.Core.List.{List}
+use mathlib.Core.List.{List, [], _∷_}
 use Rattle.rules.specs.Grid.{Puzzle}
 use Rattle.rules.specs.Sums.{Sums}
 use Rattle.sheet_marking.specs.declared.Marked.{Marked}
@@ -12,10 +12,14 @@ use Rattle.engine.specs.declared.Counted.the-variants as counts
 use Rattle.engine.specs.declared.Solved.{Solved}
 use Rattle.engine.specs.declared.Solved.the-variants.{Unsolvable, Unique, Multiple}
 use Rattle.engine.specs.declared.Solved.the-variants as verdicts
-use Rattle.engine.specs.Solve.{SolveGiven}
+use Rattle.engine.specs.Answer.{SolveGiven}
 use Rattle.candidates.specs.declared.Outcome.{Outcome}
 use Rattle.candidates.specs.declared.Outcome.the-variants.{Contradicted, Written}
 use Rattle.candidates.specs.declared.Outcome.the-variants as tables
+use mathlib.Core.Bool.{cond}
+use lib.Dec.{eqb}
+use lib.ListN.{length}
+use Rattle.candidates.specs.Remaining.{TableGiven}
 
 -- The number and the two target slices are as a definition says.
 pub record SumsGiven (given : Sums) (number : ℕ) (rows columns : List ℕ) : Type 0 where
@@ -61,3 +65,20 @@ abbrev pub tableNumber : Outcome → ℕ
 tableNumber (tables.Refused k) = k
 tableNumber Written = 0
 tableNumber Contradicted = 100
+
+-- The entries of bytes taken in pairs.
+unfoldable pub pairs : List ℕ → List ℕ
+pairs [] = []
+pairs (a ∷ []) = []
+pairs (a ∷ (b ∷ l)) = (a * 256 + b) ∷ pairs l
+
+-- The entries of a list of bytes: an odd number of bytes has none.
+unfoldable pub entriesOf : List ℕ → List ℕ
+entriesOf bs = cond (eqb (length bs % 2) 0) (pairs bs) []
+
+-- The number and the entries are those of an answer of Candidates; unless the number is 0, the bytes are as they were.
+pub record TableNumbered (p : Puzzle) (ms : List ℕ) (number : ℕ) (bytes bytes′ : List ℕ) : Type 0 where
+  pub answer : Outcome
+  pub given : TableGiven p ms answer (entriesOf bytes) (entriesOf bytes′)
+  pub number-is : number ≡ tableNumber answer
+  pub untouched : (number ≡ 0 → ⊥) → bytes′ ≡ bytes

@@ -5,14 +5,14 @@ use engine::Solved;
 use sheet_marking::Marked;
 ghost use mathlib.Core.Path.{_≡_};
 ghost use Rattle.rules.specs.Sums.{targetSums};
-ghost use Rattle.puzzle.specs.Given.{puzzle};
+ghost use Rattle.rules.specs.Grid.{puzzle};
 ghost use Rattle.sheet_marking.specs.Answer.{markSheet};
 ghost use Rattle.rules.specs.Mark.{marksOf};
 ghost use Rattle.engine.specs.Answer.{countAnswer};
 ghost use Prim.Native.Nat.{_*_, min};
 ghost use lib.ListN.{length};
-ghost use Rattle.doppelblock.specs.Entries.{entriesOf, entryCount, mostLent, TableNumbered};
-ghost use Rattle.doppelblock.specs.Number.{SumsGiven, sheetNumber, CountGiven, solveNumber, SolveNumbered};
+ghost use Rattle.doppelblock.specs.Entries.{entryCount, mostLent};
+ghost use Rattle.doppelblock.specs.Number.{entriesOf, TableNumbered, SumsGiven, sheetNumber, CountGiven, solveNumber, SolveNumbered};
 
 pub struct Answer {
     pub number: u8,

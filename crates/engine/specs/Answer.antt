@@ -1,16 +1,24 @@
--- The answer of Count, by its cases. Assumes nothing.
-use Prim.Native.Nat.{ℕ, zero, suc}
+-- The answers of Count and of Solve, by their cases, and the grid that Solve writes. Assumes nothing.
+use Prim.Native.Nat.{ℕ, zero, suc, _<_}
 use mathlib.Core.Path.{_≡_}
+use mathlib.Core.Logic.{_⊎_}
 use mathlib.Core.List.{List}
+use lib.ListN.{length}
 use Rattle.rules.specs.Grid.{Puzzle}
-use Rattle.rules.specs.Check.{refusal, countChecks}
-use Rattle.rules.specs.Number.{capped}
+use Rattle.rules.specs.Check.{refusal, countChecks, solveChecks}
+use Rattle.rules.specs.Number.{Solution, number, capped, Verdict, unsolvable, unique, multiple, verdictOf}
 use Rattle.engine.specs.declared.Counted.{Counted}
-use Rattle.engine.specs.declared.Counted.the-variants.{Refused, Count}
+use Rattle.engine.specs.declared.Counted.the-variants.{Count}
+use Rattle.engine.specs.declared.Counted.the-variants as counts
+use Rattle.engine.specs.declared.Solved.{Solved}
+use Rattle.engine.specs.declared.Solved.the-variants.{Unsolvable, Unique, Multiple}
+use Rattle.engine.specs.declared.Solved.the-variants as verdicts
+
+-- ---- Count
 
 -- The answer of a refusal number and a count: 0 is not refused.
 abbrev pub counted : ℕ → ℕ → Counted
-counted (suc k) c = Refused (suc k)
+counted (suc k) c = counts.Refused (suc k)
 counted zero c = Count c
 
 -- The answer of Count: the number that the puzzle or its marks are refused by, else the count under the cap.
@@ -20,3 +28,32 @@ countAnswer p ms cap = counted (refusal (countChecks p ms)) (capped cap p ms)
 -- A puzzle and marks that are not refused.
 pub record CountAsk (p : Puzzle) (ms : List ℕ) : Type 0 where
   pub accepted : refusal (countChecks p ms) ≡ 0
+
+-- ---- Solve
+
+-- The answer of a refusal number and a verdict: 0 is not refused.
+abbrev pub solvedAs : ℕ → Verdict → Solved
+solvedAs (suc k) v = verdicts.Refused (suc k)
+solvedAs zero unsolvable = Unsolvable
+solvedAs zero unique = Unique
+solvedAs zero multiple = Multiple
+
+-- The answer of Solve: the number that the puzzle, its marks or a cell buffer of this length are refused by, else the verdict on the number of grids.
+abbrev pub solveAnswer : Puzzle → List ℕ → ℕ → Solved
+solveAnswer p ms len = solvedAs (refusal (solveChecks p ms len)) (verdictOf (number p ms))
+
+-- The answer is that of Solve. The cells hold one of the grids, which of them is left open; on a refusal, and if there is none, they are as they were.
+pub record SolveGiven (p : Puzzle) (ms : List ℕ) (answer : Solved) (cells cells′ : List ℕ) : Type 0 where
+  pub answer-is : answer ≡ solveAnswer p ms (length cells)
+  pub untouched : (refusal (solveChecks p ms (length cells)) ≡ 0 → ⊥) ⊎ (number p ms ≡ 0) → cells′ ≡ cells
+  pub written : refusal (solveChecks p ms (length cells)) ≡ 0 → 0 < number p ms → Solution p ms cells′
+
+-- A puzzle, marks and a cell buffer that are not refused.
+pub record SolveAsk (p : Puzzle) (ms : List ℕ) (len : ℕ) : Type 0 where
+  pub accepted : refusal (solveChecks p ms len) ≡ 0
+
+-- Up to two grids are counted, and one is in the cells if there is one.
+pub record Found (p : Puzzle) (ms : List ℕ) (found : ℕ) (cells cells′ : List ℕ) : Type 0 where
+  pub count : found ≡ capped 2 p ms
+  pub untouched : found ≡ 0 → cells′ ≡ cells
+  pub written : 0 < found → Solution p ms cells′

@@ -1,4 +1,1 @@
 pub mod Answer
-pub mod CountLaws
-pub mod Solve
-pub mod SolveLaws

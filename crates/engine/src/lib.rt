@@ -8,9 +8,8 @@ ghost use Rattle.rules.specs.Mark.{marksOf};
 ghost use lib.ListN.{length};
 ghost use Rattle.rules.specs.Check.{refusal, countChecks, solveChecks};
 ghost use Rattle.rules.specs.Number.{capped, verdictOf};
-ghost use Rattle.puzzle.specs.Given.{puzzle};
-ghost use Rattle.engine.specs.Answer.{countAnswer, CountAsk};
-ghost use Rattle.engine.specs.Solve.{solvedAs, SolveAsk, Found, SolveGiven};
+ghost use Rattle.rules.specs.Grid.{puzzle};
+ghost use Rattle.engine.specs.Answer.{countAnswer, CountAsk, solvedAs, SolveAsk, Found, SolveGiven};
 
 pub enum Counted {
     Refused(u8),

@@ -1,3 +1,1 @@
 pub mod Fresh
-pub mod FillLaws
-pub mod FreshLaws

@@ -4,7 +4,7 @@ use value::Value;
 ghost use mathlib.Core.Path.{_≡_};
 ghost use Prim.Native.Nat.{_+_, _*_, _≤_, _<_};
 ghost use lib.ListN.{length};
-ghost use Rattle.rules.specs.SizeLaws.{Size};
+ghost use Rattle.rules.specs.Size.{Size};
 ghost use Rattle.fresh.specs.Fresh.{Filled, Blank, RowsFull, Fresh};
 
 // The places from .. to get the number x.

@@ -8,10 +8,9 @@ use lib.ListN.{length}
 use Rattle.tally.specs.Tally.{any}
 use Rattle.rules.specs.Grid.{Line, across, down, index, Puzzle, target}
 use Rattle.rules.specs.Mark.{has}
-use Rattle.rules.specs.Arrangement.{arrangements}
+use Rattle.table.specs.Closed.{arrangements, Closed}
 use Rattle.table.specs.Table.{everyValue, fits}
-use Rattle.table.specs.Closed.{Closed}
-use Rattle.line_laws.specs.GridLines.{GridOf}
+use Rattle.line_laws.specs.Grids.{GridOf}
 use Rattle.settled.specs.EmptyCell.{Empty}
 use Rattle.soundness.specs.SameGrids.{SameGrids}
 use Rattle.slab.specs.Slab.{cand, tableIn, tail, lag}
@@ -23,9 +22,9 @@ use Rattle.arcs.specs.Arc.{LineOf, lives, live, Arc, Holding}
 -- ---- the live arrangements
 
 -- The number of a line: a row r is line r, a column c line 9 + c.
-unfoldable pub number : Line → ℕ
-number (across r) = r
-number (down c) = 9 + c
+unfoldable pub lineNumber : Line → ℕ
+lineNumber (across r) = r
+lineNumber (down c) = 9 + c
 
 -- The candidates of a grid: the cell at place x of the state has the value v.
 unfoldable pub candidatesOf : ℕ → List ℕ → ℕ → ℕ → Bool
@@ -33,8 +32,8 @@ candidatesOf n g x v = ltb (x / 9) n && (ltb (x % 9) n && (any (eqb v) (everyVal
 
 -- The live arrangements are those of the puzzle's targets, and each grid that fits is held by them.
 pub record Kept (p : Puzzle) (l : List ℕ) : Type 0 where
-  pub member : (ℓ : Line) → index ℓ < p .size → (j : ℕ) → j < lives l (number ℓ) →
-      List·Memᴰ (arrangementOf (p .size) (live l (number ℓ) j)) (arrangements (p .size) (target p ℓ))
+  pub member : (ℓ : Line) → index ℓ < p .size → (j : ℕ) → j < lives l (lineNumber ℓ) →
+      List·Memᴰ (arrangementOf (p .size) (live l (lineNumber ℓ) j)) (arrangements (p .size) (target p ℓ))
   pub holds : (g : List ℕ) → GridOf p g → fits (p .size) (tableIn l) g ≡ true →
       (ℓ : ℕ) → LineOf (p .size) ℓ → Holding (p .size) ℓ (lives l ℓ) l (candidatesOf (p .size) g)
 
@@ -81,6 +80,6 @@ pub record Propagated (n : ℕ) (l l′ : List ℕ) (rests : Bool) : Type 0 wher
   pub filled : rests ≡ true → (r c : ℕ) → r < n → c < n → Empty n (tableIn l′) r c → ⊥
 
 -- A state that may be propagated.
-pub record Propagable (n : ℕ) (ws l : List ℕ) : Type 0 where
+pub record PropagateAsk (n : ℕ) (ws l : List ℕ) : Type 0 where
   pub words : Words n ws
   pub lagging : Lagging n l 0

@@ -1,13 +1,1 @@
-pub mod Lists
-pub mod Pigeonhole
-pub mod Subsets
-pub mod Half
-pub mod Own
-pub mod Parts
-pub mod Values
-pub mod Arranged
-pub mod Found
-pub mod Followed
-pub mod SettledLine
-pub mod GridLines
-pub mod Dead
+pub mod Grids

@@ -8,10 +8,10 @@ use lib.ListN.{length, getD}
 use Rattle.tally.specs.Tally.{span}
 use Rattle.tally.specs.Tally as tally
 use Rattle.bits.specs.Bit.{bit}
-use Rattle.bits.specs.Sum.{sum, same}
-use Rattle.rules.specs.SizeLaws.{Size}
+use Rattle.bits.specs.Sum.{sumOver, same}
+use Rattle.rules.specs.Size.{Size}
 use Rattle.rules.specs.Check.{maxTarget}
-use Rattle.rules.specs.Arrangement.{arrangements}
+use Rattle.table.specs.Closed.{arrangements}
 use Rattle.words.specs.Word.{Known, arrangementOf, wordOf, maskIn, setOf, innerOf, part, Shaped, Words}
 use Rattle.arcs.specs.Arc.{blackAt, LineOf, lives, live, support}
 use Rattle.fresh.specs.Fresh.{Fresh}
@@ -35,8 +35,8 @@ pub record Raised (ℓ : ℕ) (l l′ : List ℕ) (f : ℕ → ℕ → ℕ) : Ty
   pub rest : (q : ℕ) → (3007 + ℓ * 144 ≤ q → q < 3151 + ℓ * 144 → ⊥) → getD l′ q 0 ≡ getD l q 0
 
 -- By one at one place and value; by the digits of a set at one place; by the digits of a word at its inner places below m.
-unfoldable pub one : ℕ → ℕ → ℕ → ℕ → ℕ
-one p v q w = same (q * 16 + w) (p * 16 + v)
+unfoldable pub oneAt : ℕ → ℕ → ℕ → ℕ → ℕ
+oneAt p v q w = same (q * 16 + w) (p * 16 + v)
 
 unfoldable pub digitsAt : ℕ → ℕ → ℕ → ℕ → ℕ
 digitsAt p set q w = min (same q p) (bit w set)
@@ -45,7 +45,7 @@ unfoldable pub innerTo : ℕ → ℕ → ℕ → ℕ → ℕ
 innerTo m w q v = cond (ltb q m) (min (bit v (setOf w)) (bit q (innerOf w))) 0
 
 -- The support of the value v at place p of line ℓ can rise.
-pub record Raisable (ℓ p v : ℕ) (l : List ℕ) : Type 0 where
+pub record RaiseAsk (ℓ p v : ℕ) (l : List ℕ) : Type 0 where
   pub long : length l ≡ 5599
   pub line : ℓ < 18
   pub place : p < 9
@@ -73,7 +73,7 @@ pub record Added (n ℓ : ℕ) (l l′ ids : List ℕ) : Type 0 where
   pub rest : (q : ℕ) → Elsewhere ℓ q → getD l′ q 0 ≡ getD l q 0
 
 -- They can be: there is room for them.
-pub record Addable (n ℓ k : ℕ) (ws l ids : List ℕ) : Type 0 where
+pub record AddAsk (n ℓ k : ℕ) (ws l ids : List ℕ) : Type 0 where
   pub size : Size n
   pub words : Words n ws
   pub line : ℓ < 18
@@ -87,7 +87,7 @@ pub record Adding (n ℓ k : ℕ) (ws l₀ l rest whole : List ℕ) : Type 0 whe
   pub done : List ℕ
   pub added : Added n ℓ l₀ l done
   pub is : done ++ rest ≡ whole
-  pub ask : Addable n ℓ k ws l rest
+  pub ask : AddAsk n ℓ k ws l rest
 
 -- Subset s has len digits, all of size n.
 pub record StartsAsk (n s len : ℕ) : Type 0 where
@@ -107,7 +107,7 @@ pub record Lists (n ℓ t : ℕ) (l : List ℕ) : Type 0 where
   pub room : lives l ℓ ≤ 78
   pub is : map (arrangementOf n) (listOf l ℓ) ≡ arrangements n t
   pub known : (j : ℕ) → j < lives l ℓ → Known n (live l ℓ j)
-  pub supports : (p v : ℕ) → p < 9 → v < 16 → support l (ℓ * 9 + p) v ≡ sum 0 (lives l ℓ) (λ (j : ℕ). part (blackAt ℓ) (wordOf n (live l ℓ j)) p v)
+  pub supports : (p v : ℕ) → p < 9 → v < 16 → support l (ℓ * 9 + p) v ≡ sumOver 0 (lives l ℓ) (λ (j : ℕ). part (blackAt ℓ) (wordOf n (live l ℓ j)) p v)
 
 -- Lines from .. from + n - 1, with targets ts and the first black k, can be opened.
 pub record LinesAsk (n from k : ℕ) (ws ts l : List ℕ) : Type 0 where
@@ -143,7 +143,7 @@ pub record OpenAsk (n : ℕ) (ws rows columns l : List ℕ) : Type 0 where
   pub columns-within : (i : ℕ) → i < n → getD columns i 0 ≤ maxTarget n
 
 -- Each line lists its arrangements, and nothing but lists and supports moved.
-pub record Arranged (n : ℕ) (rows columns l l′ : List ℕ) : Type 0 where
+pub record LinesListed (n : ℕ) (rows columns l l′ : List ℕ) : Type 0 where
   pub size : length l′ ≡ length l
   pub each : (ℓ : ℕ) → LineOf n ℓ → Lists n ℓ (targetAt rows columns ℓ) l′
   pub rest : (q : ℕ) → q < 1585 → getD l′ q 0 ≡ getD l q 0

@@ -13,13 +13,13 @@ ghost use Prim.Native.Nat.{ℕ, _≤_, _<_};
 ghost use Rattle.rules.specs.Check.{maxTarget};
 ghost use Rattle.words.specs.Word.{part, Known};
 ghost use Rattle.listing.specs.Numbers.{onSide, startsFrom, sideFrom, sideOf, numbersFor};
-ghost use Rattle.listing.specs.Listing.{Raised, one, digitsAt, innerTo, Raisable, WordAsk, Added, Addable, StartsAsk};
-ghost use Rattle.listing.specs.Listing.{LinesAsk, LinesTo, OpenAsk, Arranged};
+ghost use Rattle.listing.specs.Listing.{Raised, oneAt, digitsAt, innerTo, RaiseAsk, WordAsk, Added, AddAsk, StartsAsk};
+ghost use Rattle.listing.specs.Listing.{LinesAsk, LinesTo, OpenAsk, LinesListed};
 
 // One more arrangement has the value v at place p of a line.
 fn raise_support(st: &mut [u16], line: usize, p: usize, v: usize)
-    requires { ⌜ Raisable line p v (now st) ⌝ }
-    ensures { λ _. ⌜ Raised line (now (st .entry)) (now (st .exit)) (one p v) ⌝ }
+    requires { ⌜ RaiseAsk line p v (now st) ⌝ }
+    ensures { λ _. ⌜ Raised line (now (st .entry)) (now (st .exit)) (oneAt p v) ⌝ }
 {
     let at = Slab::SUPPORT + (line * 9 + p) * 16 + v;
     st[at] = st[at] + 1;
@@ -27,7 +27,7 @@ fn raise_support(st: &mut [u16], line: usize, p: usize, v: usize)
 
 // One more arrangement has the digits of a set at place p of a line.
 fn add_digits(st: &mut [u16], line: usize, p: usize, set: u16)
-    requires { ⌜ ((v : ℕ) → v < 16 → Raisable line p v (now st)) ⌝ }
+    requires { ⌜ ((v : ℕ) → v < 16 → RaiseAsk line p v (now st)) ⌝ }
     ensures { λ _. ⌜ Raised line (now (st .entry)) (now (st .exit)) (digitsAt p set) ⌝ }
 {
     let mut rest = set;
@@ -40,7 +40,7 @@ fn add_digits(st: &mut [u16], line: usize, p: usize, set: u16)
 
 // One more arrangement has the digits of a word at its inner places.
 fn add_inner(st: &mut [u16], n: usize, line: usize, w: u32)
-    requires { ⌜ (n ≤ 9) × ((p v : ℕ) → p < n → v < 16 → Raisable line p v (now st)) ⌝ }
+    requires { ⌜ (n ≤ 9) × ((p v : ℕ) → p < n → v < 16 → RaiseAsk line p v (now st)) ⌝ }
     ensures { λ _. ⌜ Raised line (now (st .entry)) (now (st .exit)) (innerTo n w) ⌝ }
 {
     let inner = w / 256 % 512;
@@ -66,7 +66,7 @@ fn add_support(st: &mut [u16], n: usize, line: usize, first: usize, w: u32)
 
 // An arrangement joins a line's list.
 fn add_arrangement(st: &mut [u16], words: &[u32], n: usize, line: usize, first: usize, id: usize)
-    requires { ⌜ Addable n line first (now words) (now st) (id ∷ []) × Known n id ⌝ }
+    requires { ⌜ AddAsk n line first (now words) (now st) (id ∷ []) × Known n id ⌝ }
     ensures { λ _. ⌜ Added n line (now (st .entry)) (now (st .exit)) (id ∷ []) ⌝ }
 {
     let k = wide(st[Slab::LENGTHS + line]);
@@ -93,7 +93,7 @@ fn open_starts(
     s: usize,
     len: usize,
 )
-    requires { ⌜ Addable n line first (now words) (now st) (startsFrom n outside s len 0) × StartsAsk n s len ⌝ }
+    requires { ⌜ AddAsk n line first (now words) (now st) (startsFrom n outside s len 0) × StartsAsk n s len ⌝ }
     ensures { λ _. ⌜ Added n line (now (st .entry)) (now (st .exit)) (startsFrom n outside s len 0) ⌝ }
 {
     let mut start = 0;
@@ -116,7 +116,7 @@ fn open_subsets(
     from: usize,
     to: usize,
 )
-    requires { ⌜ Addable n line first (now words) (now st) (sideFrom n outside from to) × (to ≤ 128) ⌝ }
+    requires { ⌜ AddAsk n line first (now words) (now st) (sideFrom n outside from to) × (to ≤ 128) ⌝ }
     ensures { λ _. ⌜ Added n line (now (st .entry)) (now (st .exit)) (sideFrom n outside from to) ⌝ }
 {
     let top = 1u16 << (n - 1);
@@ -141,7 +141,7 @@ fn open_side(
     outside: bool,
     want: usize,
 )
-    requires { ⌜ Addable n line first (now words) (now st) (sideOf n outside want) × (want < 29) ⌝ }
+    requires { ⌜ AddAsk n line first (now words) (now st) (sideOf n outside want) × (want < 29) ⌝ }
     ensures { λ _. ⌜ Added n line (now (st .entry)) (now (st .exit)) (sideOf n outside want) ⌝ }
 {
     open_subsets(
@@ -158,7 +158,7 @@ fn open_side(
 
 // The arrangements of a line with a target: the inside ones have its sum, the outside ones leave it.
 fn open_line(st: &mut [u16], words: &[u32], n: usize, line: usize, first: usize, target: usize)
-    requires { ⌜ Addable n line first (now words) (now st) (numbersFor n target) × (target ≤ maxTarget n) ⌝ }
+    requires { ⌜ AddAsk n line first (now words) (now st) (numbersFor n target) × (target ≤ maxTarget n) ⌝ }
     ensures { λ _. ⌜ Added n line (now (st .entry)) (now (st .exit)) (numbersFor n target) ⌝ }
 {
     let other = max_target(n) - target;
@@ -181,7 +181,7 @@ fn open_lines(st: &mut [u16], words: &[u32], n: usize, from: usize, first: usize
 // Every line lists the arrangements of its target: the rows, then the columns.
 pub fn open_arrangements(st: &mut [u16], words: &[u32], n: usize, rows: &[u8], columns: &[u8])
     requires { ⌜ OpenAsk n (now words) (now rows) (now columns) (now st) ⌝ }
-    ensures { λ _. ⌜ Arranged n (now (rows .entry)) (now (columns .entry)) (now (st .entry)) (now (st .exit)) ⌝ }
+    ensures { λ _. ⌜ LinesListed n (now (rows .entry)) (now (columns .entry)) (now (st .entry)) (now (st .exit)) ⌝ }
 {
     open_lines(st, words, n, 0, 8, rows);
     open_lines(st, words, n, 9, 10, columns);

@@ -1,2 +1,1 @@
 pub mod Unpacked
-pub mod MarkLaws

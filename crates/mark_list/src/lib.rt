@@ -5,7 +5,7 @@ ghost use Prim.Native.Nat.{_+_, _*_, _≤_, _<_};
 ghost use lib.ListN.{length};
 ghost use Rattle.rules.specs.Mark.{marksOf};
 ghost use Rattle.rules.specs.Check.{refusal, checkMark, markChecks};
-ghost use Rattle.rules.specs.SizeLaws.{Size};
+ghost use Rattle.rules.specs.Size.{Size};
 ghost use Rattle.mark_list.specs.Unpacked.{unpacked, wordAt};
 
 pub struct Mark {

@@ -4,8 +4,8 @@ use mathlib.Core.Path.{_≡_, refl, sym, ap, ap₂, _∙_}
 use mathlib.Core.Bool.{Bool, true, false, not, _&&_, true≢false}
 use mathlib.Core.List.{List, _∷_, _++_, List·Permᴰ, List·Memᴰ}
 use Rattle.tally.specs.Tally.{all}
-use Rattle.tally.specs.TallyLaws.{and-right, and-map, all-less, all-perm, count-split, count-le, count-ext, count-never, test-ext}
-use Rattle.tally.specs.WayLaws.{all-each}
+use Rattle.tally.proofs.TallyLaws.{and-right, and-map, all-less, all-perm, count-split, count-le, count-ext, count-never, test-ext}
+use Rattle.tally.proofs.WayLaws.{all-each}
 use Rattle.rules.specs.Grid.{Puzzle, keeps}
 use Rattle.rules.specs.Mark.{keepsMark, keepsMarks}
 use Rattle.rules.specs.Number.{grids, solves, number}

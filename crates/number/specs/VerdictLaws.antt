@@ -1,20 +1,13 @@
 -- None, exactly one and several grids, told apart by the number. Assumes nothing.
 use Prim.Native.Nat.{ℕ, zero, suc, _-_, _*_, _≤_, _<_, min}
 use mathlib.Core.Path.{_≡_, refl}
-use mathlib.Core.Bool.{true}
 use mathlib.Core.List.{List, List·Memᴰ·head, List·Memᴰ·tail}
 use native.Mathlib.Omega.{arith}
 use Rattle.tally.specs.Tally.{count}
-use Rattle.tally.specs.TallyLaws.{Way, Once, count-none, count-one, span-in, span-past, span-once, bit-ne}
-use Rattle.tally.specs.WayLaws.{count-find, count-some, count-two, count-another}
-use Rattle.rules.specs.Line.{black, digits}
-use Rattle.rules.specs.Grid.{Puzzle}
-use Rattle.rules.specs.Number.{symbols, grids, solves, number, unsolvable, unique, multiple, verdictOf}
-
--- a grid of black and digits that keeps the puzzle and the marks
-pub record Solution (p : Puzzle) (ms g : List ℕ) : Type 0 where
-  pub filled : Way (symbols (p .size)) (p .size * p .size) g
-  pub right : solves p ms g ≡ true
+use Rattle.tally.proofs.TallyLaws.{Once, count-none, count-one, span-in, span-past, span-once, bit-ne}
+use Rattle.tally.proofs.WayLaws.{count-find, count-some, count-two, count-another}
+use Rattle.rules.specs.Grid.{black, digits, Puzzle}
+use Rattle.rules.specs.Number.{symbols, grids, solves, number, unsolvable, unique, multiple, verdictOf, Solution}
 
 -- black and the digits are different values
 pub symbols-once : (n : ℕ) → n ≤ 9 → Once (symbols n)

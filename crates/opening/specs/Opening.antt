@@ -3,12 +3,12 @@ use Prim.Native.Nat.{ℕ, _+_, _-_, _*_, _/_, _%_, _≤_, _<_}
 use mathlib.Core.Path.{_≡_}
 use mathlib.Core.List.{List, map}
 use Rattle.tally.specs.Tally.{span}
-use Rattle.rules.specs.Arrangement.{arrangements}
+use Rattle.table.specs.Closed.{arrangements}
 use Rattle.bits.specs.Bit.{bit}
 use Rattle.slab.specs.Slab.{cand}
 use Rattle.slab.specs.Ready.{Moved}
 use Rattle.words.specs.Word.{arrangementOf}
-use Rattle.arcs.specs.Arc.{InHalf, LineOf, lives, live, support, Arc, Unsupported}
+use Rattle.arcs.specs.Arc.{HalfOf, LineOf, lives, live, support, Arc, Unsupported}
 use Rattle.listing.specs.Listing.{targetAt}
 
 -- The bits of m below k are those of the values without support at place y, and it has no others.
@@ -18,8 +18,8 @@ pub record Lacks (l : List ℕ) (y k m : ℕ) : Type 0 where
 
 -- The value v of the cell at place x has no support in its row, or none in its column.
 pub data Bare (l : List ℕ) (x v : ℕ) : Type 0 where
-  in-row : InHalf 8 v → support l (x / 9 * 9 + x % 9) v ≡ 0 → Bare l x v
-  in-column : InHalf 10 v → support l ((9 + x % 9) * 9 + x / 9) v ≡ 0 → Bare l x v
+  in-row : HalfOf 8 v → support l (x / 9 * 9 + x % 9) v ≡ 0 → Bare l x v
+  in-column : HalfOf 10 v → support l ((9 + x % 9) * 9 + x / 9) v ≡ 0 → Bare l x v
 
 -- Those of one cell; of row r in front of column c; of the first r rows of size n.
 unfoldable pub BareCell : List ℕ → ℕ → ℕ → ℕ → Type 0

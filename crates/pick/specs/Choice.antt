@@ -2,14 +2,14 @@
 use Prim.Native.Nat.{ℕ, _/_, _%_, _≤_, _<_}
 use mathlib.Core.Path.{_≡_}
 use mathlib.Core.List.{List}
-use Rattle.bits.specs.Sum.{sum}
+use Rattle.bits.specs.Sum.{sumOver}
 use Rattle.slab.specs.Slab.{cand}
 use Rattle.pick.specs.declared.Pick.{Pick}
 use Rattle.pick.specs.declared.Pick.the-variants.{At, Nothing}
 
 -- How many row-half candidates a cell has: digits and row blacks are the values 1 to 9.
 unfoldable pub rowChoices : List ℕ → ℕ → ℕ
-rowChoices l x = sum 1 9 (λ v. cand l x v)
+rowChoices l x = sumOver 1 9 (λ v. cand l x v)
 
 -- A row-half candidate of a cell.
 pub record Candidate (l : List ℕ) (x v : ℕ) : Type 0 where

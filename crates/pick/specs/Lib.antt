@@ -1,4 +1,2 @@
 pub mod Choice
-pub mod ChoiceLaws
 pub mod Scanning
-pub mod ValueLaws

@@ -5,7 +5,7 @@ ghost use mathlib.Core.Path.{_≡_};
 ghost use Prim.Native.Nat.{_+_, _*_, _<_};
 ghost use Rattle.slab.specs.Ready.{Ready};
 ghost use Rattle.pick.specs.Choice.{rowChoices, Candidate, Picked};
-ghost use Rattle.pick.specs.Scanning.{InSlab, Looked, Sought, RowOf};
+ghost use Rattle.pick.specs.Scanning.{PlaceAsk, Looked, Sought, BestRowAsk};
 
 // A cell to branch on and the value to take there, or nothing where no cell has a choice.
 pub enum Pick {
@@ -24,7 +24,7 @@ const ROW_HALF: u16 = 1022;
 
 // How many row-half candidates a cell has.
 fn freedom(st: &[u16], cell: usize) -> u32
-    requires { ⌜ InSlab (now st) cell ⌝ }
+    requires { ⌜ PlaceAsk (now st) cell ⌝ }
     ensures { λ r. ⌜ r ≡ rowChoices (now (st .entry)) cell ⌝ }
 {
     u16::count_ones(st[cell] & ROW_HALF)
@@ -45,7 +45,7 @@ fn look(best: Best, cell: usize, free: u32) -> Best
 
 // Goes on through row r, up to a cell with two candidates.
 fn pick_row(st: &[u16], n: usize, r: usize, start: Best) -> Best
-    requires { ⌜ RowOf n (now st) r start ⌝ }
+    requires { ⌜ BestRowAsk n (now st) r start ⌝ }
     ensures { λ best. ⌜ Sought n (now (st .entry)) (r * 9 + 9) best ⌝ }
 {
     let mut best = start;
@@ -79,7 +79,7 @@ fn pick_cell(st: &[u16], n: usize) -> Best
 
 // The row-half candidate of a cell with the least support in its row, the highest among equals.
 fn pick_value(st: &[u16], cell: usize) -> usize
-    requires { ⌜ (InSlab (now st) cell) × (0 < rowChoices (now st) cell) ⌝ }
+    requires { ⌜ (PlaceAsk (now st) cell) × (0 < rowChoices (now st) cell) ⌝ }
     ensures { λ v. ⌜ Candidate (now (st .entry)) cell v ⌝ }
 {
     let mut rest = st[cell] & ROW_HALF;

@@ -1,5 +1,1 @@
 pub mod Prepared
-pub mod Begun
-pub mod PrepareLaws
-pub mod Started
-pub mod Held

@@ -11,7 +11,7 @@ use Rattle.table.specs.Steps.{markedAll}
 use Rattle.soundness.specs.Marks.{Whole}
 use Rattle.slab.specs.Slab.{tableIn}
 use Rattle.fresh.specs.Fresh.{Blank}
-use Rattle.invariants.specs.State.{Kept, Propagable}
+use Rattle.invariants.specs.State.{Kept, PropagateAsk}
 
 -- What it asks: a puzzle and marks that are not refused, and blank memory.
 pub record PrepareAsk (p : Puzzle) (ms ws l : List ℕ) : Type 0 where
@@ -22,7 +22,7 @@ pub record PrepareAsk (p : Puzzle) (ms ws l : List ℕ) : Type 0 where
 
 -- A state that may be searched: its table is a whole one after the marks.
 pub record Marked (p : Puzzle) (ms ws l : List ℕ) : Type 0 where
-  pub propagable : Propagable (p .size) ws l
+  pub propagable : PropagateAsk (p .size) ws l
   pub kept : Kept p l
   pub before : List ℕ
   pub whole : Whole p (tableIn before)

@@ -5,7 +5,7 @@ use opening::open;
 use propagate::propagate;
 use words::fill_words;
 ghost use Rattle.rules.specs.Mark.{marksOf};
-ghost use Rattle.puzzle.specs.Given.{puzzle};
+ghost use Rattle.rules.specs.Grid.{puzzle};
 ghost use Rattle.prepare.specs.Prepared.{PrepareAsk, Prepared};
 
 // False if a cell is empty before the marks, so that no grid is left.

@@ -4,7 +4,7 @@ use singles::update_black_consistency;
 use singles::update_hidden_singles;
 use singles::update_singleton;
 use slab::Slab;
-ghost use Rattle.invariants.specs.State.{Propagable, Propagated};
+ghost use Rattle.invariants.specs.State.{PropagateAsk, Propagated};
 ghost use Rattle.propagate.specs.Update.{UpdateAsk, UpdateDone};
 
 // All handlers of a strike.
@@ -20,7 +20,7 @@ fn update(st: &mut [u16], words: &[u32], n: usize, r: usize, c: usize, v: usize)
 
 // Whether propagation came to rest; if not, a cell has no candidate.
 pub fn propagate(st: &mut [u16], words: &[u32], n: usize) -> bool
-    requires { ⌜ Propagable n (now words) (now st) ⌝ }
+    requires { ⌜ PropagateAsk n (now words) (now st) ⌝ }
     ensures { λ r. ⌜ Propagated n (now (st .entry)) (now (st .exit)) r ⌝ }
 {
     let mut head = 0;

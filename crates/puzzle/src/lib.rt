@@ -3,8 +3,8 @@ ghost use mathlib.Core.Path.{_≡_};
 ghost use lib.Dec.{leb};
 ghost use Rattle.tally.specs.Tally.{all};
 ghost use Rattle.rules.specs.Check.{refusal, maxTarget, sizeFits, targetsFit, puzzleChecks};
-ghost use Rattle.rules.specs.SizeLaws.{Size};
-ghost use Rattle.puzzle.specs.Given.{puzzle};
+ghost use Rattle.rules.specs.Size.{Size};
+ghost use Rattle.rules.specs.Grid.{puzzle};
 
 pub fn wide(c: u8) -> usize
     ensures { λ r. ⌜ r ≡ c ⌝ }

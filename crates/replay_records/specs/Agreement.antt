@@ -5,10 +5,10 @@ use mathlib.Core.Bool.{Bool, true}
 use mathlib.Core.List.{List, [], _∷_}
 use lib.ListN.{length}
 use Rattle.rules.specs.Sums.{Sums, targetSums}
-use Rattle.puzzle.specs.Given.{puzzle}
+use Rattle.rules.specs.Grid.{puzzle}
 use Rattle.sheet_marking.specs.Answer.{markSheet}
 use Rattle.doppelblock.specs.Number.{sheetNumber}
-use Rattle.replay_records.specs.Fields.{field, sizeOf}
+use Rattle.replay_records.specs.Fields.{field, recordSize}
 
 -- A test is true exactly where a statement holds.
 pub record Says (r : Bool) (P : Type 0) : Type 0 where
@@ -27,7 +27,7 @@ SumsAs given xs = SumsRecorded (given .number) (given .rows) (given .columns) xs
 
 -- The record has the target sums of its size and cells, where the target slices hold these bytes to begin with.
 abbrev pub SumsFrom : List ℕ → List ℕ → List ℕ → Type 0
-SumsFrom rows columns xs = SumsAs (targetSums (sizeOf xs) (field xs 1) rows columns) xs
+SumsFrom rows columns xs = SumsAs (targetSums (recordSize xs) (field xs 1) rows columns) xs
 
 -- A record of target sums is right, and its target slices fit the buffers that it is replayed with.
 pub record SumsAgree (xs : List ℕ) : Type 0 where
@@ -37,4 +37,4 @@ pub record SumsAgree (xs : List ℕ) : Type 0 where
 
 -- A record of a marked sheet is right.
 abbrev pub SheetAgrees : List ℕ → Type 0
-SheetAgrees xs = field xs 4 ≡ sheetNumber (markSheet (puzzle (sizeOf xs) (field xs 1) (field xs 2)) (field xs 3)) ∷ []
+SheetAgrees xs = field xs 4 ≡ sheetNumber (markSheet (puzzle (recordSize xs) (field xs 1) (field xs 2)) (field xs 3)) ∷ []

@@ -15,19 +15,19 @@ fieldStart xs zero = 1
 fieldStart xs (suc k) = fieldEnd xs (fieldStart xs k)
 
 -- The bytes between two places, or none where the second is past the end.
-unfoldable pub part : List ℕ → ℕ → ℕ → List ℕ
-part xs start end = cond (leb end (length xs)) (take (end - start) (drop start xs)) []
+unfoldable pub slice : List ℕ → ℕ → ℕ → List ℕ
+slice xs start end = cond (leb end (length xs)) (take (end - start) (drop start xs)) []
 
 -- The content of field k.
 abbrev pub field : List ℕ → ℕ → List ℕ
-field xs k = part xs (fieldStart xs k + 2) (fieldStart xs (k + 1))
+field xs k = slice xs (fieldStart xs k + 2) (fieldStart xs (k + 1))
 
 abbrev pub tag : List ℕ → ℕ
 tag xs = getD xs 0 0
 
 -- The size that the call is given.
-abbrev pub sizeOf : List ℕ → ℕ
-sizeOf xs = getD (field xs 0) 0 0
+abbrev pub recordSize : List ℕ → ℕ
+recordSize xs = getD (field xs 0) 0 0
 
 -- A number in bytes, most significant first, where v stands in front of them.
 unfoldable pub numberFrom : ℕ → List ℕ → ℕ

@@ -33,7 +33,7 @@ abbrev pub Finds : Bool → List ℕ → Type 0
 Finds r xs = FindsAs (tag xs) r xs
 
 -- What a test of the first record says: no, where none can be read.
-pub record Tested (r : Bool) (xs : List ℕ) : Type 0 where
+pub record RecordTested (r : Bool) (xs : List ℕ) : Type 0 where
   pub read : readable xs ≡ true → Finds r xs
   pub unread : readable xs ≡ false → r ≡ false
 
@@ -43,32 +43,32 @@ pub record Replayed (xs : List ℕ) (o : Outcome) : Type 0 where
   pub length-is : o .length ≡ step xs
   pub within : o .length ≤ length xs
   pub onward : 0 < length xs → 0 < o .length
-  pub agrees-is : Tested (o .agrees) xs
+  pub agrees-is : RecordTested (o .agrees) xs
 
 -- A kind from first to last is counted.
-abbrev pub counted : ℕ → ℕ → ℕ → Bool
-counted first last k = leb first k && leb k last
+abbrev pub inKinds : ℕ → ℕ → ℕ → Bool
+inKinds first last k = leb first k && leb k last
 
 -- 1 for yes, 0 for no.
-abbrev pub one : Bool → ℕ
-one b = cond b 1 0
+abbrev pub asNumber : Bool → ℕ
+asNumber b = cond b 1 0
 
 -- A tally with one more record. The bounds follow from the numbers.
-pub record Added (first last : ℕ) (t : Tally) (o : Outcome) (r : Tally) : Type 0 where
-  pub replayed-is : r .replayed ≡ t .replayed + one (counted first last (o .kind))
-  pub differ-is : r .differ ≡ t .differ + one (counted first last (o .kind) && not (o .agrees))
+pub record RecordAdded (first last : ℕ) (t : Tally) (o : Outcome) (r : Tally) : Type 0 where
+  pub replayed-is : r .replayed ≡ t .replayed + asNumber (inKinds first last (o .kind))
+  pub differ-is : r .differ ≡ t .differ + asNumber (inKinds first last (o .kind) && not (o .agrees))
   pub replayed-most : r .replayed ≤ t .replayed + 1
   pub differ-most : r .differ ≤ t .differ + 1
 
 -- Of the records of a list whose kind is from first to last, there are some number, and in some number of these the engine answers otherwise.
-pub data Tallied (first last : ℕ) : ℕ → ℕ → List ℕ → Type 0 where
-  none : Tallied first last 0 0 []
+pub data RecordsTallied (first last : ℕ) : ℕ → ℕ → List ℕ → Type 0 where
+  none : RecordsTallied first last 0 0 []
   more :
-      {k d : ℕ} {xs : List ℕ} {agrees : Bool} → 0 < length xs → Tested agrees xs → Tallied first last k d (drop (step xs) xs)
-      → Tallied first last (one (counted first last (kind xs)) + k) (one (counted first last (kind xs) && not agrees) + d) xs
+      {k d : ℕ} {xs : List ℕ} {agrees : Bool} → 0 < length xs → RecordTested agrees xs → RecordsTallied first last k d (drop (step xs) xs)
+      → RecordsTallied first last (asNumber (inKinds first last (kind xs)) + k) (asNumber (inKinds first last (kind xs) && not agrees) + d) xs
 
 -- Where the first record of a list begins in which the engine answers otherwise; the end of the list where there is none.
 pub data FirstDifference : ℕ → List ℕ → Type 0 where
   at-end : FirstDifference 0 []
-  here : {xs : List ℕ} → 0 < length xs → Tested false xs → FirstDifference 0 xs
-  later : {k : ℕ} {xs : List ℕ} → 0 < length xs → Tested true xs → FirstDifference k (drop (step xs) xs) → FirstDifference (step xs + k) xs
+  here : {xs : List ℕ} → 0 < length xs → RecordTested false xs → FirstDifference 0 xs
+  later : {k : ℕ} {xs : List ℕ} → 0 < length xs → RecordTested true xs → FirstDifference k (drop (step xs) xs) → FirstDifference (step xs + k) xs

@@ -5,19 +5,17 @@ use mathlib.Core.Path.{_≡_}
 use mathlib.Core.Bool.{Bool, false}
 use mathlib.Core.List.{List, [], _∷_}
 use lib.ListN.{length}
-use Rattle.rules.specs.Grid.{Puzzle}
+use Rattle.rules.specs.Grid.{Puzzle, puzzle}
 use Rattle.rules.specs.Mark.{marksOf}
-use Rattle.puzzle.specs.Given.{puzzle}
 use Rattle.engine.specs.declared.Counted.{Counted}
 use Rattle.engine.specs.Answer.{countAnswer}
-use Rattle.doppelblock.specs.Number.{countNumber, countAfter, SolveNumbered}
-use Rattle.doppelblock.specs.Entries.{TableNumbered}
-use Rattle.replay_records.specs.Fields.{field, sizeOf, numberFrom}
+use Rattle.doppelblock.specs.Number.{countNumber, countAfter, SolveNumbered, TableNumbered}
+use Rattle.replay_records.specs.Fields.{field, recordSize, numberFrom}
 use Rattle.replay_records.specs.Agreement.{Says}
 
 -- The puzzle and the marks of a record.
-abbrev pub puzzleOf : List ℕ → Puzzle
-puzzleOf xs = puzzle (sizeOf xs) (field xs 1) (field xs 2)
+abbrev pub recordPuzzle : List ℕ → Puzzle
+recordPuzzle xs = puzzle (recordSize xs) (field xs 1) (field xs 2)
 
 abbrev pub marksIn : List ℕ → List ℕ
 marksIn xs = marksOf (field xs 3)
@@ -40,7 +38,7 @@ CountAs answer old xs = CountRecorded (countNumber answer) (countAfter answer ol
 
 -- The record has the count of its puzzle and marks under a cap.
 abbrev pub CountFrom : ℕ → ℕ → List ℕ → Type 0
-CountFrom cap old xs = CountAs (countAnswer (puzzleOf xs) (marksIn xs) cap) old xs
+CountFrom cap old xs = CountAs (countAnswer (recordPuzzle xs) (marksIn xs) cap) old xs
 
 -- A record of a count is right, and its numbers have eight bytes.
 pub record CountAgrees (xs : List ℕ) : Type 0 where
@@ -63,13 +61,13 @@ pub record Compared (r : Bool) (Promised : ℕ → List ℕ → Type 0) (xs : Li
   pub says : Says r (BufferRecorded number after xs)
 
 -- The same, and the test is false where the recorded buffer does not fit the one that the record is replayed with.
-pub record Found (r : Bool) (Promised : ℕ → List ℕ → Type 0) (xs : List ℕ) : Type 0 where
+pub record FittingCompared (r : Bool) (Promised : ℕ → List ℕ → Type 0) (xs : List ℕ) : Type 0 where
   pub long : 256 < length (field xs 4) → r ≡ false
   pub short : length (field xs 4) ≤ 256 → Compared r Promised xs
 
 -- What Candidates promises of its number and of the table, before and afterwards.
 abbrev pub TablePromised : List ℕ → List ℕ → ℕ → List ℕ → Type 0
-TablePromised xs table number after = TableNumbered (puzzleOf xs) (marksIn xs) number table after
+TablePromised xs table number after = TableNumbered (recordPuzzle xs) (marksIn xs) number table after
 
 -- What a test of the call says, where the table holds these bytes to begin with.
 abbrev pub TableFrom : List ℕ → Bool → List ℕ → Type 0
@@ -77,11 +75,11 @@ TableFrom table r xs = Compared r (TablePromised xs table) xs
 
 -- What a test of a record of candidates says.
 abbrev pub TableFound : Bool → List ℕ → Type 0
-TableFound r xs = Found r (TablePromised xs (field xs 4)) xs
+TableFound r xs = FittingCompared r (TablePromised xs (field xs 4)) xs
 
 -- What Solve promises of its number and of the cells, before and afterwards.
 abbrev pub CellsPromised : List ℕ → List ℕ → ℕ → List ℕ → Type 0
-CellsPromised xs cells number after = SolveNumbered (puzzleOf xs) (marksIn xs) number cells after
+CellsPromised xs cells number after = SolveNumbered (recordPuzzle xs) (marksIn xs) number cells after
 
 -- What a test of the call says, where the cells hold these bytes to begin with.
 abbrev pub CellsFrom : List ℕ → Bool → List ℕ → Type 0
@@ -89,4 +87,4 @@ CellsFrom cells r xs = Compared r (CellsPromised xs cells) xs
 
 -- What a test of a record of Solve says.
 abbrev pub CellsFound : Bool → List ℕ → Type 0
-CellsFound r xs = Found r (CellsPromised xs (field xs 4)) xs
+CellsFound r xs = FittingCompared r (CellsPromised xs (field xs 4)) xs

@@ -5,14 +5,14 @@ ghost use mathlib.Core.Path.{_≡_};
 ghost use mathlib.Core.List.{_∷_, []};
 ghost use Prim.Native.Nat.{_≤_, _<_};
 ghost use lib.ListN.{length, take};
-ghost use Rattle.replay_records.specs.Fields.{field as Fields·field, sizeOf};
+ghost use Rattle.replay_records.specs.Fields.{field as Fields·field, recordSize};
 ghost use Rattle.replay_records.specs.Agreement.{Says, SumsRecorded, SumsFrom, SumsAgree, SheetAgrees};
 
 // The room for a slice that a call writes to.
 pub(crate) const ROOM: usize = 256;
 
 pub(crate) fn size(list: &[u8]) -> usize
-    ensures { λ r. ⌜ r ≡ sizeOf (now (list .entry)) ⌝ }
+    ensures { λ r. ⌜ r ≡ recordSize (now (list .entry)) ⌝ }
 {
     byte(field(list, 0), 0)
 }

@@ -14,7 +14,7 @@ use solver_calls::candidates_agree;
 use solver_calls::count_agrees;
 use solver_calls::solve_agrees;
 ghost use Prim.Native.Nat.{_+_, _<_, _^_};
-ghost use Rattle.replay_records.specs.Replay.{Finds, Replayed, Added, Tallied, FirstDifference};
+ghost use Rattle.replay_records.specs.Replay.{Finds, Replayed, RecordAdded, RecordsTallied, FirstDifference};
 
 // What replaying the first record of a list found: its tag, how many bytes it takes, and whether the engine answers as recorded. Where no
 // record can be read, the kind is 0 and the length that of the whole list.
@@ -76,7 +76,7 @@ pub fn replay(list: &[u8]) -> Outcome
 // The tally with one more record, if its kind is counted.
 fn add(t: Tally, o: Outcome, first: usize, last: usize) -> Tally
     requires { ⌜ (t .replayed + 1 < 2 ^ 64) × (t .differ + 1 < 2 ^ 64) ⌝ }
-    ensures { λ r. ⌜ Added first last t o r ⌝ }
+    ensures { λ r. ⌜ RecordAdded first last t o r ⌝ }
 {
     if o.kind < first {
         return t;
@@ -98,7 +98,7 @@ fn add(t: Tally, o: Outcome, first: usize, last: usize) -> Tally
 
 // How many records of a list have a kind from first to last, and in how many of these the engine answers otherwise.
 pub fn replay_list(list: &[u8], first: usize, last: usize) -> Tally
-    ensures { λ r. ⌜ Tallied first last (r .replayed) (r .differ) (now (list .entry)) ⌝ }
+    ensures { λ r. ⌜ RecordsTallied first last (r .replayed) (r .differ) (now (list .entry)) ⌝ }
 {
     let mut t = Tally {
         replayed: 0,

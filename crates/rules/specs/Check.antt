@@ -5,8 +5,7 @@ use mathlib.Core.List.{List, [], _∷_, _++_, map}
 use lib.Dec.{eqb, ltb, leb}
 use lib.ListN.{length}
 use Rattle.tally.specs.Tally.{all, count, join}
-use Rattle.rules.specs.Line.{isBlack, inside, lineSum}
-use Rattle.rules.specs.Grid.{Puzzle, line, lines}
+use Rattle.rules.specs.Grid.{isBlack, inside, lineSum, Puzzle, line, lines}
 use Rattle.rules.specs.Mark.{markRow, markColumn, markValue, markSpare}
 
 -- A check: its number, and whether the input passes.

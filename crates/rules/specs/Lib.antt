@@ -1,16 +1,7 @@
-pub mod Line
 pub mod Grid
 pub mod Mark
 pub mod Number
-pub mod Arrangement
 pub mod Check
 pub mod Sums
-pub mod Marking
-pub mod GridLaws
-pub mod SizeFour
-pub mod Samples
-pub mod CheckLaws
-pub mod EachLaws
 pub mod Strided
-pub mod InsideLaws
-pub mod SizeLaws
+pub mod Size

@@ -5,8 +5,7 @@ use mathlib.Core.List.{List, [], _∷_}
 use lib.Dec.{eqb}
 use lib.ListN.{getD, take}
 use Rattle.tally.specs.Tally.{all, count}
-use Rattle.rules.specs.Line.{isBlack}
-use Rattle.rules.specs.Grid.{cell, row, column}
+use Rattle.rules.specs.Grid.{isBlack, cell, row, column}
 
 -- ---- the fields of a mark, from the most significant bit on: kind 1, row 4, column 4, value 4, spare 3
 

@@ -1,11 +1,11 @@
 -- The number of grids that keep a puzzle and marks, the count under a cap, and the verdict. Assumes nothing.
 use Prim.Native.Nat.{ℕ, zero, suc, _*_, min}
-use mathlib.Core.Bool.{Bool, _&&_}
+use mathlib.Core.Bool.{Bool, _&&_, true}
 use mathlib.Core.List.{List, _∷_}
-use Rattle.tally.specs.Tally.{count, ways}
-use Rattle.rules.specs.Line.{black, digits}
-use Rattle.rules.specs.Grid.{Puzzle, keeps}
+use Rattle.tally.specs.Tally.{count, ways, Way}
+use Rattle.rules.specs.Grid.{black, digits, Puzzle, keeps}
 use Rattle.rules.specs.Mark.{keepsMarks}
+use mathlib.Core.Path.{_≡_}
 
 -- What a cell of size n may hold: black, or a digit.
 unfoldable pub symbols : ℕ → List ℕ
@@ -18,6 +18,11 @@ grids n = ways (symbols n) (n * n)
 -- A grid keeps the puzzle and every mark.
 unfoldable pub solves : Puzzle → List ℕ → List ℕ → Bool
 solves p ms g = keeps p g && keepsMarks (p .size) ms g
+
+-- A solution: a grid of black and digits that keeps the puzzle and every mark.
+pub record Solution (p : Puzzle) (ms g : List ℕ) : Type 0 where
+  pub filled : Way (symbols (p .size)) (p .size * p .size) g
+  pub right : solves p ms g ≡ true
 
 -- THE NUMBER: how many of these ways keep the puzzle and every mark.
 unfoldable pub number : Puzzle → List ℕ → ℕ

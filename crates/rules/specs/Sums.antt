@@ -2,10 +2,11 @@
 use Prim.Native.Nat.{ℕ}
 use mathlib.Core.List.{List, map}
 use lib.ListN.{length}
-use Rattle.tally.specs.Tally.{span}
-use Rattle.rules.specs.Line.{lineSum}
-use Rattle.rules.specs.Grid.{row, column}
-use Rattle.rules.specs.Check.{refusal, unlessRefused, sumsChecks}
+use Rattle.tally.specs.Tally.{span, all}
+use Rattle.rules.specs.Grid.{lineSum, meets, row, column, Puzzle, target, line, lines}
+use Rattle.rules.specs.Check.{refusal, unlessRefused, sumsChecks, checkLines}
+use mathlib.Core.Bool.{Bool, _&&_}
+use lib.Dec.{eqb}
 
 -- The sums of the rows.
 unfoldable pub rowSums : ℕ → List ℕ → List ℕ
@@ -26,3 +27,8 @@ unfoldable pub targetSums : ℕ → List ℕ → List ℕ → List ℕ → Sums
 targetSums n cells rows columns =
     let k = refusal (sumsChecks n cells (length rows) (length columns)) in
     record { number = k; rows = unlessRefused k rows (rowSums n cells); columns = unlessRefused k columns (columnSums n cells) }
+
+-- A sheet is right: its target sums are computed, and each meets its target.
+unfoldable pub sheetRight : Puzzle → List ℕ → Bool
+sheetRight p g =
+    eqb (refusal (checkLines (p .size) g)) 0 && all (λ ℓ. meets (target p ℓ) (lineSum (line (p .size) g ℓ))) (lines (p .size))

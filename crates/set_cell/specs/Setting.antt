@@ -5,8 +5,10 @@ use mathlib.Core.Bool.{Bool, true, _&&_, _||_}
 use mathlib.Core.Logic.{_≢_, _⊎_}
 use mathlib.Core.List.{List}
 use Rattle.bits.specs.Bit.{bit}
-use Rattle.table.specs.Steps.{inRow, inColumn, strikes}
-use Rattle.slab.specs.Ready.{ValueOf, Ready}
+use Rattle.table.specs.Steps.{strikes}
+use Rattle.table.specs.Table.{inColumn, inRow}
+use Rattle.slab.specs.Ready.{Ready}
+use Rattle.table.specs.Value.{ValueOf}
 use Rattle.set_cell.specs.Run.{Sides}
 
 -- Setting the cell of row r and column c to v strikes the candidate w of the cell at place x.

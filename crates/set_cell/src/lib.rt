@@ -3,7 +3,7 @@ use slab::clear_mask;
 use slab::clear_value;
 ghost use mathlib.Core.Path.{_≡_};
 ghost use Prim.Native.Nat.{_≤_, _<_};
-ghost use Rattle.table.specs.Steps.{inRow, inColumn};
+ghost use Rattle.table.specs.Table.{inColumn, inRow};
 ghost use Rattle.slab.specs.Slab.{Struck};
 ghost use Rattle.set_cell.specs.Run.{Run, Sides, RunAsk, SidesAsk};
 ghost use Rattle.set_cell.specs.Setting.{SetHit, SetAsk, RowOthers, ColumnOthers, BlacksAround, RestOfHalf};

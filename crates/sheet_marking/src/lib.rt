@@ -7,14 +7,12 @@ ghost use mathlib.Core.Path.{_≡_};
 ghost use Prim.Native.Nat.{_*_};
 ghost use lib.ListN.{length, getD};
 ghost use Rattle.tally.specs.Tally.{all, span};
-ghost use Rattle.rules.specs.Line.{meets, lineSum};
+ghost use Rattle.rules.specs.Grid.{meets, lineSum, puzzle};
 ghost use Rattle.rules.specs.Check.{refusal, sheetChecks};
-ghost use Rattle.rules.specs.Marking.{sheetRight};
+ghost use Rattle.rules.specs.Sums.{sheetRight};
 ghost use Rattle.rules.specs.Strided.{strided};
-ghost use Rattle.puzzle.specs.Given.{puzzle};
-ghost use Rattle.target_sums.specs.Scanning.{AllWithin};
-ghost use Rattle.sheet_marking.specs.Answer.{markSheet};
-ghost use Rattle.sheet_marking.specs.MarkingLaws.{Fit};
+ghost use Rattle.target_sums.specs.Scanning.{LinesInside};
+ghost use Rattle.sheet_marking.specs.Answer.{markSheet, MarkLinesAsk};
 
 pub enum Marked {
     Refused(u8),
@@ -32,7 +30,7 @@ fn meets_target(t: u8, s: usize) -> bool
 
 // Each of n lines, which start at 0, step, 2 step, .., meets its target.
 fn sums_meet(cells: &[u8], step: usize, stride: usize, n: usize, targets: &[u8]) -> bool
-    requires { ⌜ (AllWithin step stride n (length (now cells))) × (length (now targets) ≡ n) ⌝ }
+    requires { ⌜ (LinesInside step stride n (length (now cells))) × (length (now targets) ≡ n) ⌝ }
     ensures { λ r. ⌜ r ≡ all (λ i. meets (getD (now (targets .entry)) i 0) (lineSum (strided (i * step) stride (now (cells .entry)) n))) (span 0 n) ⌝ }
 {
     let mut i = 0;
@@ -62,7 +60,7 @@ fn sheet_refusal(n: usize, rows: &[u8], columns: &[u8], cells: &[u8]) -> u8
 
 // The sums of the sheet are computed, and each meets its target.
 fn sheet_right(n: usize, rows: &[u8], columns: &[u8], cells: &[u8]) -> bool
-    requires { ⌜ Fit n (now cells) (length (now rows)) (length (now columns)) ⌝ }
+    requires { ⌜ MarkLinesAsk n (now cells) (length (now rows)) (length (now columns)) ⌝ }
     ensures { λ r. ⌜ r ≡ sheetRight (puzzle n (now (rows .entry)) (now (columns .entry))) (now (cells .entry)) ⌝ }
 {
     let a = lines_refusal(cells, n, 1, n);

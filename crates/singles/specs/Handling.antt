@@ -1,18 +1,17 @@
 -- What a handler of a strike asks and gives. Assumes nothing.
-use Prim.Native.Nat.{ℕ, _+_, _*_, _/_, _%_, _≤_, _<_}
+use Prim.Native.Nat.{ℕ, _+_, _*_, _≤_, _<_}
 use mathlib.Core.Path.{_≡_}
 use mathlib.Core.Bool.{Bool, _&&_}
 use mathlib.Core.List.{List}
-use native.Mathlib.Omega.{arith}
 use lib.Dec.{leb, ltb}
 use lib.ListN.{length}
 use Rattle.rules.specs.Grid.{Line, across, down, index}
-use Rattle.slab.specs.Slab.{cand, Grown}
-use Rattle.slab.specs.Ready.{ValueOf, Ready, ready-grown, Next, next-grown, Moved}
+use Rattle.slab.specs.Slab.{cand}
+use Rattle.slab.specs.Ready.{Ready, Next, Moved}
+use Rattle.table.specs.Value.{ValueOf}
 use Rattle.set_cell.specs.Run.{Inside}
 use Rattle.counters.specs.Counters.{inLine, halvesBase, placesBase, blacksBase, ownBlack, HalvesOf, PlacesOf, BlacksOf, Halves, LinePlaces, Blacks}
-use Rattle.counters.specs.CounterLaws.{next-valid}
-use Rattle.counters.specs.Lines.{cellOf}
+use Rattle.table.specs.Place.{cellOf}
 use Rattle.singles.specs.Reasons.{Steps}
 
 -- The strike at h, of the value v of the cell of row r and column c, is handled.
@@ -22,25 +21,6 @@ pub record Handling (n : ℕ) (l : List ℕ) (r c v h : ℕ) : Type 0 where
   pub column : c < n
   pub value : ValueOf n v
   pub next : Next l h (r * 9 + c) v
-
--- the next strike of the queue is one
-pub handling : {n h x v : ℕ} {l : List ℕ} → Ready n l → Next l h x v → v < 16 → Handling n l (x / 9) (x % 9) v h
-handling {x = x} r k m =
-    let u = next-valid r k m in
-    let e : x / 9 * 9 + x % 9 ≡ x = omega arith in
-    record { ready = r; row = u .row; column = u .column; value = u .value; next = rw e k }
-
-pub handling-grown : {n r c v h : ℕ} {l l′ : List ℕ} → Grown l l′ → Handling n l r c v h → Handling n l′ r c v h
-handling-grown g a = record { ready = ready-grown g (a .ready); row = a .row; column = a .column; value = a .value; next = next-grown g (a .next) }
-
--- another strike of the same candidate
-pub handling-at : {n r c v h : ℕ} {l : List ℕ} → Handling n l r c v h → (k : ℕ) → Next l k (r * 9 + c) v → Handling n l r c v k
-handling-at a k x = record { ready = a .ready; row = a .row; column = a .column; value = a .value; next = x }
-
-pub handling-cell : {n r c v h : ℕ} {l : List ℕ} → Handling n l r c v h → r * 9 + c < 81
-handling-cell a = omega (arith, a .row, a .column, a .ready .size .high)
-
--- ---- halves
 
 -- The mask of a line's half.
 abbrev pub halfMask : Line → ℕ
@@ -82,15 +62,13 @@ pub record SingletonDone (n : ℕ) (l l′ : List ℕ) (r c v : ℕ) : Type 0 wh
   pub steps : Steps n l l′
   pub halves : (h : ℕ) → Next l h (r * 9 + c) v → Halves n l h → Halves n l′ (h + 1)
 
--- ---- places in a line
-
 pub record FindAsk (l : List ℕ) (n start stride v : ℕ) : Type 0 where
   pub size : length l ≡ 5599
   pub value : v < 16
   pub cells : Inside start stride n
 
 -- The first place of the line that has the candidate v, or n.
-pub record Found (l : List ℕ) (n start stride v p : ℕ) : Type 0 where
+pub record PlaceFound (l : List ℕ) (n start stride v p : ℕ) : Type 0 where
   pub here : p < n → cand l (start + p * stride) v ≡ 1
   pub none : n ≤ p → (j : ℕ) → j < n → cand l (start + j * stride) v ≡ 0
 
@@ -126,8 +104,6 @@ pub record HiddenDone (n : ℕ) (l l′ : List ℕ) (r c v : ℕ) : Type 0 where
   pub moved : Moved l l′ 1135 1423
   pub steps : Steps n l l′
   pub places : (h : ℕ) → Next l h (r * 9 + c) v → LinePlaces n l h → LinePlaces n l′ (h + 1)
-
--- ---- blacks of a cell
 
 -- One of the blacks k and k + 1.
 abbrev pub blackOf : ℕ → ℕ → Bool

@@ -1,10 +1,2 @@
 pub mod Reasons
-pub mod LoneBit
 pub mod Handling
-pub mod HalfLaws
-pub mod SingletonLaws
-pub mod FindLaws
-pub mod PlaceLaws
-pub mod HiddenLaws
-pub mod BlackLaws
-pub mod ConsistencyLaws

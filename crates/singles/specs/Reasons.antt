@@ -1,19 +1,13 @@
 -- Why a handler struck candidates, in the words of tables. Assumes nothing.
-use Prim.Native.Nat.{ℕ, suc, _+_, _*_, _-_, _/_, _%_, _≤_, _<_}
-use mathlib.Core.Path.{_≡_, ap, ap₂, _∙_}
+use Prim.Native.Nat.{ℕ, suc, _≤_, _<_}
+use mathlib.Core.Path.{_≡_}
 use mathlib.Core.Bool.{true, false}
 use mathlib.Core.List.{List, List·Memᴰ}
-use lib.Dec.{eqb}
-use lib.ListN.{getD, set}
 use Rattle.rules.specs.Grid.{Line, index}
 use Rattle.table.specs.Table.{Table, places, firstBlack, half}
 use Rattle.table.specs.Steps.{taken}
-use Rattle.line_laws.specs.GridLines.{rowOf, columnOf}
-use Rattle.slab.specs.Slab.{tableIn, Sized, Struck}
-use Rattle.slab.specs.StruckLaws.{set-cand}
-use Rattle.set_cell.specs.Setting.{SetHit}
-use Rattle.set_cell.specs.SetLaws.{set-table}
-use Rattle.counters.specs.Lines.{cellOf, cell-is}
+use Rattle.table.specs.Place.{rowOf, columnOf}
+use Rattle.slab.specs.Slab.{tableIn}
 
 -- The state's table is t.
 pub record TableIs (l : List ℕ) (t : Table) : Type 0 where
@@ -41,24 +35,3 @@ pub data Reason (n : ℕ) (l l′ : List ℕ) : Type 0 where
 pub data Steps (n : ℕ) : List ℕ → List ℕ → Type 0 where
   done : {l : List ℕ} → Steps n l l
   step : {l l₁ l₂ : List ℕ} → Reason n l l₁ → Steps n l₁ l₂ → Steps n l l₂
-
-pub steps-both : {n : ℕ} {l l₁ l₂ : List ℕ} → Steps n l l₁ → Steps n l₁ l₂ → Steps n l l₂
-steps-both done b = b
-steps-both (step r a) b = step r (steps-both a b)
-
--- a counter that falls changes no candidate
-pub still-lower : {n p : ℕ} {l l′ : List ℕ} → Sized l → 973 ≤ p → l′ ≡ set l p (getD l p 0 - 1) → Reason n l l′
-unfolding tableIn
-still-lower {p = p} {l = l} s h e =
-    still (record { is = λ r c v a b d. rw e (ap (λ (x : ℕ). eqb x 1) (set-cand l p (getD l p 0 - 1) s h (r * 9 + c) v)) })
-
--- a place of a line is set
-pub taken-at : {l l′ : List ℕ} (ℓ : Line) (i x v : ℕ) → index ℓ < 9 → i < 9 → x ≡ cellOf ℓ i → Struck l l′ (SetHit (x / 9) (x % 9) v) →
-    TableIs l′ (taken (tableIn l) (rowOf ℓ i) (columnOf ℓ i) v)
-taken-at {l} {l′} ℓ i x v h k e s =
-    let q = cell-is ℓ i h k in
-    record {
-      is = λ r c w hr hc hw.
-          set-table (x / 9) (x % 9) v s r c w hr hc hw
-          ∙ ap₂ (λ y z. taken (tableIn l) y z v r c w) (ap (λ y. y / 9) e ∙ q .0) (ap (λ y. y % 9) e ∙ q .1);
-    }

@@ -8,9 +8,7 @@ use slab::clear_mask;
 use slab::lower;
 ghost use mathlib.Core.Path.{_≡_};
 ghost use Prim.Native.Nat.{_<_};
-ghost use Rattle.singles.specs.Handling.{HalfAsk, HalfDone, SingletonAsk, SingletonDone};
-ghost use Rattle.singles.specs.Handling.{FindAsk, Found, PlacesAsk, PlacesDone, HiddenAsk, HiddenDone};
-ghost use Rattle.singles.specs.Handling.{blackOf, BlacksAsk, BlacksDone, ConsistencyAsk, ConsistencyDone};
+ghost use Rattle.singles.specs.Handling.{HalfAsk, HalfDone, SingletonAsk, SingletonDone, FindAsk, PlaceFound, PlacesAsk, PlacesDone, HiddenAsk, HiddenDone, blackOf, BlacksAsk, BlacksDone, ConsistencyAsk, ConsistencyDone};
 
 // The counter of a cell's half falls, if the struck value is of that half; a half with one candidate left is set to it.
 fn update_half(st: &mut [u16], n: usize, own: bool, counter: usize, cell: usize, mask: u16)
@@ -40,7 +38,7 @@ pub fn update_singleton(st: &mut [u16], n: usize, r: usize, c: usize, v: usize)
 // The first place of a line that has the candidate v, or n.
 fn find_place(st: &[u16], n: usize, start: usize, stride: usize, v: usize) -> usize
     requires { ⌜ FindAsk (now st) n start stride v ⌝ }
-    ensures { λ p. ⌜ Found (now (st .entry)) n start stride v p ⌝ }
+    ensures { λ p. ⌜ PlaceFound (now (st .entry)) n start stride v p ⌝ }
 {
     let mut p = 0;
     while p < n {

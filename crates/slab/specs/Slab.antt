@@ -6,7 +6,7 @@ use mathlib.Core.List.{List}
 use lib.Dec.{eqb, ltb}
 use lib.ListN.{length, getD}
 use Rattle.bits.specs.Bit.{bit}
-use Rattle.bits.specs.Sum.{sum, same}
+use Rattle.bits.specs.Sum.{sumOver, same}
 use Rattle.table.specs.Table.{Table}
 
 -- 1 where the cell at place x has the candidate v, else 0.
@@ -26,25 +26,25 @@ entry l i = getD l (81 + i) 0
 
 -- How often the strike e waits in the queue from h on.
 unfoldable pub waits : List ℕ → ℕ → ℕ → ℕ
-waits l h e = sum h (tail l - h) (λ (i : ℕ). same e (entry l i))
+waits l h e = sumOver h (tail l - h) (λ (i : ℕ). same e (entry l i))
 
 -- A candidate's lag: 1 if the cell has it, and how often its strike waits from h on. Strikes leave it as it is.
 unfoldable pub lag : List ℕ → ℕ → ℕ → ℕ → ℕ
 lag l h x v = cand l x v + waits l h (x * 16 + v)
 
 -- How many candidates the cells have.
-unfoldable pub left : List ℕ → ℕ
-left l = sum 0 1296 (λ (k : ℕ). cand l (k / 16) (k % 16))
+unfoldable pub candidatesLeft : List ℕ → ℕ
+candidatesLeft l = sumOver 0 1296 (λ (k : ℕ). cand l (k / 16) (k % 16))
 
 -- The state has its size, and room in the queue for all candidates that are left.
 pub record Sized (l : List ℕ) : Type 0 where
   pub size : length l ≡ 5599
-  pub room : tail l + left l ≤ 891
+  pub room : tail l + candidatesLeft l ≤ 891
 
 -- What every step keeps: the table only shrinks, and what it loses waits in the queue.
 pub record Grown (l l′ : List ℕ) : Type 0 where
   pub size : length l′ ≡ length l
-  pub balance : tail l′ + left l′ ≡ tail l + left l
+  pub balance : tail l′ + candidatesLeft l′ ≡ tail l + candidatesLeft l
   pub grows : tail l ≤ tail l′
   pub old : (i : ℕ) → i < tail l → entry l′ i ≡ entry l i
   pub lags : (h x v : ℕ) → h ≤ tail l → v < 16 → lag l′ h x v ≡ lag l h x v
@@ -66,14 +66,14 @@ unfoldable pub Masked : ℕ → ℕ → ℕ → ℕ → Type 0
 Masked cell mask x v = (x ≡ cell) × (bit v mask ≡ 1)
 
 -- The cell has the candidate.
-pub record Strikable (l : List ℕ) (cell v : ℕ) : Type 0 where
+pub record StrikeAsk (l : List ℕ) (cell v : ℕ) : Type 0 where
   pub sized : Sized l
   pub place : cell < 81
   pub value : v < 16
   pub has : bit v (getD l cell 0) ≡ 1
 
 -- A counter that is not 0.
-pub record Countable (l : List ℕ) (p : ℕ) : Type 0 where
+pub record CounterAsk (l : List ℕ) (p : ℕ) : Type 0 where
   pub size : length l ≡ 5599
   pub from : 973 ≤ p
   pub to : p < 5599

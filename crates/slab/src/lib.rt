@@ -3,7 +3,7 @@
 ghost use mathlib.Core.Path.{_≡_};
 ghost use Prim.Native.Nat.{_-_, _<_};
 ghost use lib.ListN.{getD, set};
-ghost use Rattle.slab.specs.Slab.{Sized, Struck, One, Masked, Strikable, Countable};
+ghost use Rattle.slab.specs.Slab.{Sized, Struck, One, Masked, StrikeAsk, CounterAsk};
 
 pub struct Slab {
     pub len: usize,
@@ -42,7 +42,7 @@ pub fn wide(x: u16) -> usize
 
 // Strikes a candidate that the cell has: it leaves the table and enters the queue.
 fn strike(st: &mut [u16], cell: usize, v: usize)
-    requires { ⌜ Strikable (now st) cell v ⌝ }
+    requires { ⌜ StrikeAsk (now st) cell v ⌝ }
     ensures { λ _. ⌜ Struck (now (st .entry)) (now (st .exit)) (One cell v) ⌝ }
 {
     let t = wide(st[Slab::TAIL]);
@@ -76,7 +76,7 @@ pub fn clear_mask(st: &mut [u16], cell: usize, mask: u16)
 
 // A counter falls by one; gives what is left.
 pub fn lower(st: &mut [u16], p: usize) -> u16
-    requires { ⌜ Countable (now st) p ⌝ }
+    requires { ⌜ CounterAsk (now st) p ⌝ }
     ensures { λ r. ⌜ (r ≡ getD (now (st .entry)) p 0 - 1) × (now (st .exit) ≡ set (now (st .entry)) p (getD (now (st .entry)) p 0 - 1)) ⌝ }
 {
     let left = st[p] - 1;

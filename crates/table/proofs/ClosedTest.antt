@@ -10,13 +10,11 @@ use lib.Dec.{eqb}
 use lib.ListN.{length}
 use borrow.Author.Tests.{eqb-true}
 use Rattle.tally.specs.Tally.{span, all, any}
-use Rattle.tally.specs.TallyLaws.{span-in, span-mem}
-use Rattle.rules.specs.Line.{digits}
-use Rattle.rules.specs.Grid.{Line, across, down, index, lines, Puzzle, target}
+use Rattle.tally.proofs.TallyLaws.{span-in, span-mem}
+use Rattle.rules.specs.Grid.{digits, Line, across, down, index, lines, Puzzle, target}
 use Rattle.rules.specs.Mark.{leftBlack, rightBlack, upperBlack, lowerBlack}
-use Rattle.rules.specs.Arrangement.{Arrangement, arrangements}
+use Rattle.table.specs.Closed.{Arrangement, arrangements, place, allows, Live, Covers, Supported, Closed}
 use Rattle.table.specs.Table.{Table, Places, places, firstBlack, half}
-use Rattle.table.specs.Closed.{place, allows, Live, Covers, Supported, Closed}
 use Rattle.table.specs.Steps.{lays}
 use Rattle.table.proofs.Decides.{Decides, implies, restate, is, equal, agree, both, if-then, each, some, each-below, each-line}
 

@@ -7,10 +7,10 @@ use native.Mathlib.Omega.{arith}
 use lib.Dec.{eqb}
 use borrow.Author.Tests.{eqb-true, eq-eqb}
 use Rattle.tally.specs.Tally.{span, all, any}
-use Rattle.tally.specs.TallyLaws.{and-left, and-right, and-both, span-in, span-mem}
-use Rattle.tally.specs.WayLaws.{all-each}
+use Rattle.tally.proofs.TallyLaws.{and-left, and-right, and-both, span-in, span-mem}
+use Rattle.tally.proofs.WayLaws.{all-each}
 use Rattle.rules.specs.Grid.{Line, across, down, index, lines}
-use Rattle.rules.specs.GridLaws.{all-lines}
+use Rattle.rules.proofs.GridLaws.{all-lines}
 
 -- The test b passes exactly where P holds.
 pub record Decides (b : Bool) (P : Type 0) : Type 0 where

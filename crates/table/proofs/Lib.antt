@@ -2,3 +2,4 @@
 pub mod Decides
 pub mod ClosedTest
 pub mod ClosedFacts
+mod TableFacts

@@ -2,4 +2,5 @@ pub mod Table
 pub mod Closed
 pub mod Steps
 pub mod Reading
-pub mod TableFacts
+pub mod Value
+pub mod Place

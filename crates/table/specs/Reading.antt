@@ -5,7 +5,7 @@ use mathlib.Core.Bool.{Bool, cond}
 use mathlib.Core.List.{List, [], _∷_, map}
 use lib.Dec.{ltb}
 use Rattle.tally.specs.Tally.{span, sum, count}
-use Rattle.rules.specs.Line.{black, digits}
+use Rattle.rules.specs.Grid.{black, digits}
 use Rattle.rules.specs.Mark.{leftBlack, upperBlack}
 use Rattle.table.specs.Table.{Table, half}
 

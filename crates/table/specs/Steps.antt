@@ -7,16 +7,8 @@ use lib.ListN.{length}
 use Rattle.tally.specs.Tally.{span, any}
 use Rattle.rules.specs.Grid.{Line, across, down, Puzzle, target}
 use Rattle.rules.specs.Mark.{rejects, markRow, markColumn, markValue, leftBlack, rightBlack, upperBlack, lowerBlack}
-use Rattle.rules.specs.Arrangement.{Arrangement, arrangements}
-use Rattle.table.specs.Table.{Table, firstBlack}
-use Rattle.table.specs.Closed.{place, allows}
-
--- A value of the row half: a digit or a row black. A value of the column half: a digit or a column black.
-abbrev pub inRow : ℕ → Bool
-inRow v = ltb v 10
-
-abbrev pub inColumn : ℕ → Bool
-inColumn v = ltb v 8 || leb 10 v
+use Rattle.table.specs.Closed.{Arrangement, arrangements, place, allows}
+use Rattle.table.specs.Table.{Table, firstBlack, inRow, inColumn}
 
 -- One candidate is struck.
 unfoldable pub struck : Table → ℕ → ℕ → ℕ → Table

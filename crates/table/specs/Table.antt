@@ -1,12 +1,11 @@
 -- Candidate tables: which values a cell may still have, and which grids fit. Assumes nothing.
 use Prim.Native.Nat.{ℕ, suc, _+_, _-_, _/_, _%_, _^_}
-use mathlib.Core.Bool.{Bool, _&&_, cond}
+use mathlib.Core.Bool.{Bool, _&&_, cond, _||_}
 use mathlib.Core.List.{List, [], _∷_, _++_}
-use lib.Dec.{eqb, ltb}
+use lib.Dec.{eqb, ltb, leb}
 use lib.ListN.{getD, take}
 use Rattle.tally.specs.Tally.{span, all, count}
-use Rattle.rules.specs.Line.{isBlack, digits}
-use Rattle.rules.specs.Grid.{Line, across, down, line, lines, cell, Puzzle, keeps}
+use Rattle.rules.specs.Grid.{isBlack, digits, Line, across, down, line, lines, cell, Puzzle, keeps}
 use Rattle.rules.specs.Mark.{leftBlack, upperBlack}
 use Rattle.rules.specs.Number.{grids}
 
@@ -36,6 +35,18 @@ half n k = digits n ++ k ∷ suc k ∷ []
 -- All values of a cell.
 unfoldable pub everyValue : ℕ → List ℕ
 everyValue n = half n leftBlack ++ upperBlack ∷ suc upperBlack ∷ []
+
+-- A value of the row half: a digit or a row black.
+abbrev pub inRow : ℕ → Bool
+inRow v = ltb v 10
+
+-- A value of the column half: a digit or a column black.
+abbrev pub inColumn : ℕ → Bool
+inColumn v = ltb v 8 || leb 10 v
+
+-- Two values stand in the same half of a cell; a digit stands in both halves.
+abbrev pub sameHalf : ℕ → ℕ → Bool
+sameHalf v w = (inRow v && inRow w) || (inColumn v && inColumn w)
 
 -- The value that place i of a line of a grid has, if k is the line's first black.
 unfoldable pub own : ℕ → List ℕ → ℕ → ℕ

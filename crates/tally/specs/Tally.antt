@@ -1,16 +1,16 @@
 -- Lists: tests of all elements, counting, and all ways to fill some places. Assumes nothing.
 use Prim.Native.Nat.{ℕ, zero, suc, _+_}
 use mathlib.Core.Bool.{Bool, true, false, _&&_, _||_, cond}
-use mathlib.Core.List.{List, [], _∷_, _++_, map}
+use mathlib.Core.List.{List, [], _∷_, _++_, map, List·Memᴰ}
 
 -- the numbers from a on, k of them
 unfoldable pub span : ℕ → ℕ → List ℕ
 span a zero = []
 span a (suc k) = a ∷ span (suc a) k
 
-abbrev pub bit : Bool → ℕ
-bit true = 1
-bit false = 0
+abbrev pub oneIf : Bool → ℕ
+oneIf true = 1
+oneIf false = 0
 
 unfoldable pub sum : List ℕ → ℕ
 sum [] = 0
@@ -25,7 +25,7 @@ module _ {A : Type 0} where
   -- how many elements pass the test
   unfoldable pub count : (A → Bool) → List A → ℕ
   count p [] = 0
-  count p (x ∷ xs) = bit (p x) + count p xs
+  count p (x ∷ xs) = oneIf (p x) + count p xs
 
   -- each value of s in front of each list of r
   unfoldable pub inFront : List A → List (List A) → List (List A)
@@ -36,6 +36,11 @@ module _ {A : Type 0} where
   unfoldable pub ways : List A → ℕ → List (List A)
   ways s zero = [] ∷ []
   ways s (suc k) = inFront s (ways s k)
+
+  -- x is a way to put a value of s into each of k places
+  pub data Way (s : List A) : ℕ → List A → Type 0 where
+    done : Way s zero []
+    put : {c : A} {k : ℕ} {x : List A} → List·Memᴰ c s → Way s k x → Way s (suc k) (c ∷ x)
 
   -- the elements that pass the test
   unfoldable pub keep : (A → Bool) → List A → List A

@@ -1,6 +1,6 @@
 -- The cases of the public answers, by their numbers. Assumes nothing.
 use Prim.Native.Nat.{ℕ, zero, suc}
-use mathlib.Core.Path.{_≡_, refl}
+use mathlib.Core.Path.{_≡_}
 use mathlib.Core.List.{List}
 use Rattle.rules.specs.Sums.{Sums}
 use Rattle.target_sums.specs.declared.Summed.{Summed}
@@ -16,12 +16,8 @@ abbrev pub numberOf : Summed → ℕ
 numberOf Done = 0
 numberOf (Refused k) = k
 
-pub number-summed : (d : ℕ) → numberOf (summed d) ≡ d
-number-summed zero = refl
-number-summed (suc k) = refl
-
 -- A call answered and left the two target slices as a definition says.
-pub record Answered (given : Sums) (answer : Summed) (rows columns : List ℕ) : Type 0 where
+pub record SumsAnswered (given : Sums) (answer : Summed) (rows columns : List ℕ) : Type 0 where
   pub answer-is : answer ≡ summed (given .number)
   pub rows-are : rows ≡ given .rows
   pub columns-are : columns ≡ given .columns

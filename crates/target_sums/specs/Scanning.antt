@@ -4,7 +4,7 @@ use mathlib.Core.Path.{_≡_}
 use mathlib.Core.List.{List, [], _∷_, _++_}
 use lib.ListN.{length}
 use Rattle.tally.specs.Tally.{count}
-use Rattle.rules.specs.Line.{isBlack, inside, lineSum}
+use Rattle.rules.specs.Grid.{isBlack, inside, lineSum}
 use Rattle.rules.specs.Check.{isEmpty}
 use Rattle.rules.specs.Strided.{strided}
 use Rattle.target_sums.specs.declared.Scan.{Scan}
@@ -22,22 +22,22 @@ pub record Small (s : Scan) (k : ℕ) : Type 0 where
   pub small-sum : s .sum ≤ 255 * k
 
 -- one cell more
-pub record Next (s : Scan) (c : ℕ) (r : Scan) : Type 0 where
+pub record OneMore (s : Scan) (c : ℕ) (r : Scan) : Type 0 where
   pub seen : (l : List ℕ) → Seen s l → Seen r (l ++ c ∷ [])
   pub small : (k : ℕ) → Small s k → Small r (k + 1)
 
 -- each cell of the line lies in the buffer
-pub record Within (start stride n len : ℕ) : Type 0 where
+pub record LineAsk (start stride n len : ℕ) : Type 0 where
   pub short : n ≤ 9
   pub reach : (j : ℕ) → j < n → start + j * stride < len
 
 -- each cell of each of the n lines does
-pub record AllWithin (step stride n len : ℕ) : Type 0 where
+pub record LinesInside (step stride n len : ℕ) : Type 0 where
   pub short : n ≤ 9
   pub reach : (i j : ℕ) → i < n → j < n → i * step + j * stride < len
 
 -- the n sums fit, and so does the slice that they go into
-pub record Ready (step stride : ℕ) (g : List ℕ) (n m : ℕ) : Type 0 where
-  pub within : AllWithin step stride n (length g)
+pub record SumsAsk (step stride : ℕ) (g : List ℕ) (n m : ℕ) : Type 0 where
+  pub within : LinesInside step stride n (length g)
   pub fit : (i : ℕ) → i < n → lineSum (strided (i * step) stride g n) ≤ 255
   pub room : m ≡ n

@@ -7,12 +7,12 @@ ghost use mathlib.Core.Path.{_≡_};
 ghost use Prim.Native.Nat.{_≤_};
 ghost use lib.ListN.{length};
 ghost use Rattle.tally.specs.Tally.{join};
-ghost use Rattle.rules.specs.Line.{lineSum};
+ghost use Rattle.rules.specs.Grid.{lineSum};
 ghost use Rattle.rules.specs.Check.{refusal, checkLine, sumsChecks};
 ghost use Rattle.rules.specs.Sums.{targetSums};
 ghost use Rattle.rules.specs.Strided.{strided, each};
-ghost use Rattle.target_sums.specs.Answer.{Answered, numberOf};
-ghost use Rattle.target_sums.specs.Scanning.{Seen, Small, Next, Within, AllWithin, Ready};
+ghost use Rattle.target_sums.specs.Answer.{SumsAnswered, numberOf};
+ghost use Rattle.target_sums.specs.Scanning.{Seen, Small, OneMore, LineAsk, LinesInside, SumsAsk};
 
 pub enum Summed {
     Refused(u8),
@@ -28,7 +28,7 @@ pub struct Scan {
 
 fn add_cell(s: Scan, c: u8) -> Scan
     requires { ⌜ Small s 9 ⌝ }
-    ensures { λ r. ⌜ Next s c r ⌝ }
+    ensures { λ r. ⌜ OneMore s c r ⌝ }
 {
     if c == 255 {
         return Scan {
@@ -55,7 +55,7 @@ fn add_cell(s: Scan, c: u8) -> Scan
 }
 
 pub fn scan_line(cells: &[u8], start: usize, stride: usize, n: usize) -> Scan
-    requires { ⌜ Within start stride n (length (now cells)) ⌝ }
+    requires { ⌜ LineAsk start stride n (length (now cells)) ⌝ }
     ensures { λ r. ⌜ Seen r (strided start stride (now (cells .entry)) n) ⌝ }
 {
     let mut s = Scan {
@@ -74,7 +74,7 @@ pub fn scan_line(cells: &[u8], start: usize, stride: usize, n: usize) -> Scan
 
 // The number that a line is refused by, or 0.
 fn line_refusal(cells: &[u8], start: usize, stride: usize, n: usize) -> u8
-    requires { ⌜ Within start stride n (length (now cells)) ⌝ }
+    requires { ⌜ LineAsk start stride n (length (now cells)) ⌝ }
     ensures { λ r. ⌜ r ≡ refusal (checkLine (strided start stride (now (cells .entry)) n)) ⌝ }
 {
     let s = scan_line(cells, start, stride, n);
@@ -92,7 +92,7 @@ fn line_refusal(cells: &[u8], start: usize, stride: usize, n: usize) -> u8
 
 // The number that n lines, which start at 0, step, 2 step, .., are refused by, or 0.
 pub fn lines_refusal(cells: &[u8], step: usize, stride: usize, n: usize) -> u8
-    requires { ⌜ AllWithin step stride n (length (now cells)) ⌝ }
+    requires { ⌜ LinesInside step stride n (length (now cells)) ⌝ }
     ensures { λ r. ⌜ r ≡ refusal (join (each checkLine step stride (now (cells .entry)) n n)) ⌝ }
 {
     let mut i = 0;
@@ -107,7 +107,7 @@ pub fn lines_refusal(cells: &[u8], step: usize, stride: usize, n: usize) -> u8
 }
 
 fn line_sum(cells: &[u8], start: usize, stride: usize, n: usize) -> u8
-    requires { ⌜ (Within start stride n (length (now cells))) × (lineSum (strided start stride (now cells) n) ≤ 255) ⌝ }
+    requires { ⌜ (LineAsk start stride n (length (now cells))) × (lineSum (strided start stride (now cells) n) ≤ 255) ⌝ }
     ensures { λ r. ⌜ r ≡ lineSum (strided start stride (now (cells .entry)) n) ⌝ }
 {
     let s = scan_line(cells, start, stride, n);
@@ -115,7 +115,7 @@ fn line_sum(cells: &[u8], start: usize, stride: usize, n: usize) -> u8
 }
 
 fn put_sums(cells: &[u8], step: usize, stride: usize, n: usize, out: &mut [u8])
-    requires { ⌜ Ready step stride (now cells) n (length (now out)) ⌝ }
+    requires { ⌜ SumsAsk step stride (now cells) n (length (now out)) ⌝ }
     ensures { λ _. ⌜ now (out .exit) ≡ each lineSum step stride (now (cells .entry)) n n ⌝ }
 {
     let mut i = 0;
@@ -147,7 +147,7 @@ fn sums_refusal(n: usize, cells: &[u8], rows: usize, columns: usize) -> u8
 
 // The target sums of the cells, rows then columns, written where nothing is refused.
 pub fn compute_targets(size: usize, cells: &[u8], rows: &mut [u8], columns: &mut [u8]) -> Summed
-    ensures { λ r. ⌜ Answered (targetSums size (now (cells .entry)) (now (rows .entry)) (now (columns .entry))) r (now (rows .exit)) (now (columns .exit)) ⌝ }
+    ensures { λ r. ⌜ SumsAnswered (targetSums size (now (cells .entry)) (now (rows .entry)) (now (columns .entry))) r (now (rows .exit)) (now (columns .exit)) ⌝ }
 {
     let k = sums_refusal(size, cells, rows.len(), columns.len());
     if k != 0 {

@@ -6,7 +6,7 @@ use mathlib.Core.List.{List, _∷_, _++_}
 use lib.Dec.{eqb, leb}
 use lib.ListN.{length, drop}
 use Rattle.tally.specs.Tally.{all}
-use Rattle.rules.specs.Line.{isBlack}
+use Rattle.rules.specs.Grid.{isBlack}
 
 -- The text stands at the front, it is as long as was counted, and the bytes behind it are as they were.
 pub record Put (text : List ℕ) (counted : ℕ) (out out′ : List ℕ) : Type 0 where

@@ -7,8 +7,7 @@ use lib.ListN.{length}
 use Rattle.tally.specs.Tally.{all}
 use Rattle.rules.specs.Grid.{Puzzle}
 use Rattle.rules.specs.Check.{refusal, sizeFits, puzzleChecks}
-use Rattle.rules.specs.Number.{number, verdictOf}
-use Rattle.number.specs.VerdictLaws.{Solution}
+use Rattle.rules.specs.Number.{number, verdictOf, Solution}
 use Rattle.engine.specs.declared.Solved.{Solved}
 use Rattle.engine.specs.declared.Solved.the-variants.{Refused, Unsolvable, Unique, Multiple}
 use Rattle.text_rules.specs.Fields.{sizeOf, puzzleFrom, numberChecks}

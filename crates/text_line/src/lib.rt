@@ -9,7 +9,7 @@ use text_answer::write_text;
 use text_numbers::read_numbers;
 ghost use lib.ListN.{length, take, drop};
 ghost use Rattle.text_answer.specs.Put.{Put};
-ghost use Rattle.puzzle.specs.Given.{puzzle};
+ghost use Rattle.rules.specs.Grid.{puzzle};
 ghost use Rattle.text_line.specs.Line.{LineGiven, solvedText, AnswerAsk, SolveTargetsAsk, TargetsAsk, NumbersAsk, PuzzleText, NumbersText};
 
 // The text of an answer of Solve.

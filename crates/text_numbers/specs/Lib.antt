@@ -1,4 +1,1 @@
 pub mod Read
-pub mod FieldLaws
-pub mod ValueLaws
-pub mod NumberLaws

@@ -3,8 +3,7 @@ use Prim.Native.Nat.{ℕ, _<_}
 use mathlib.Core.Path.{_≡_}
 use mathlib.Core.List.{List, []}
 use Rattle.rules.specs.Check.{refusal}
-use Rattle.rules.specs.Number.{number, verdictOf}
-use Rattle.number.specs.VerdictLaws.{Solution}
+use Rattle.rules.specs.Number.{number, verdictOf, Solution}
 use Rattle.text_rules.specs.Fields.{puzzleOf, lineChecks}
 use Rattle.text_rules.specs.Text.{answerText}
 

@@ -2,4 +2,3 @@ pub mod Fields
 pub mod Text
 pub mod Answered
 pub mod Stream
-pub mod Samples

@@ -4,8 +4,7 @@ use mathlib.Core.Bool.{cond}
 use mathlib.Core.List.{List, [], _∷_, _++_, map}
 use lib.Dec.{ltb}
 use Rattle.tally.specs.Tally.{span}
-use Rattle.rules.specs.Line.{isBlack}
-use Rattle.rules.specs.Grid.{row}
+use Rattle.rules.specs.Grid.{isBlack, row}
 use Rattle.rules.specs.Number.{Verdict, unsolvable, unique, multiple}
 
 -- "refused "

@@ -1,3 +1,1 @@
 pub mod Mask
-pub mod MaskLaws
-pub mod NamedLaws

@@ -1,9 +1,9 @@
 // The values of a cell, and the masks of its candidates by the size (in the Rust: CellDomain and the masks of QueueSolverState).
 // Inside the engine a value is its own candidate bit: digit d is bit d, and the four blacks are bits 8 to 11 at every size.
 ghost use mathlib.Core.Path.{_≡_};
-ghost use Rattle.rules.specs.Line.{digits};
+ghost use Rattle.rules.specs.Grid.{digits};
 ghost use Rattle.rules.specs.Check.{named};
-ghost use Rattle.rules.specs.SizeLaws.{Size};
+ghost use Rattle.rules.specs.Size.{Size};
 ghost use Rattle.rules.specs.Mark.{leftBlack, upperBlack};
 ghost use Rattle.table.specs.Table.{half, everyValue};
 ghost use Rattle.value.specs.Mask.{maskOf};

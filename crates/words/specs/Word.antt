@@ -8,7 +8,7 @@ use lib.Dec.{eqb, ltb, leb}
 use lib.Bits.{bitOr}
 use lib.ListN.{length, getD}
 use Rattle.tally.specs.Tally.{span, keep}
-use Rattle.rules.specs.Arrangement.{Arrangement}
+use Rattle.table.specs.Closed.{Arrangement}
 use Rattle.bits.specs.Bit.{bit}
 
 -- ---- the subsets of the digits 1 to 7

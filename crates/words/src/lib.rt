@@ -4,9 +4,9 @@
 ghost use mathlib.Core.Path.{_≡_};
 ghost use Prim.Native.Nat.{_+_, _≤_, _<_};
 ghost use lib.ListN.{length};
-ghost use Rattle.rules.specs.SizeLaws.{Size};
+ghost use Rattle.rules.specs.Size.{Size};
 ghost use Rattle.words.specs.Word.{fromSum, setOf, firstOf, secondOf, coveredOf, innerPlaces, wordFrom, fromOf, toOf, headOf, lastOf, Words};
-ghost use Rattle.words.specs.FillLaws.{FillAsk, Filled};
+ghost use Rattle.words.specs.Fill.{FillAsk, WordsFilled};
 
 pub struct Subset {
     pub code: u16,
@@ -282,7 +282,7 @@ fn wide(x: u16) -> usize
 // The words of subset s, whose code is x: one for each start.
 fn fill_starts(words: &mut [u32], n: usize, s: usize, x: u16)
     requires { ⌜ FillAsk n s x (now words) ⌝ }
-    ensures { λ _. ⌜ Filled n s (now (words .entry)) (now (words .exit)) ⌝ }
+    ensures { λ _. ⌜ WordsFilled n s (now (words .entry)) (now (words .exit)) ⌝ }
 {
     let set = (x % 256) as u32;
     let len = wide(x / 8192);

@@ -1,4 +1,1 @@
 pub mod Published
-pub mod RowLaws
-pub mod MaskLaws
-pub mod CellLaws

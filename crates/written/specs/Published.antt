@@ -9,7 +9,8 @@ use Rattle.rules.specs.Grid.{cell}
 use Rattle.table.specs.Table.{hasBit, bitOf}
 use Rattle.table.specs.Reading.{readCell}
 use Rattle.slab.specs.Slab.{tableIn}
-use Rattle.slab.specs.Ready.{ValueOf, Ready}
+use Rattle.slab.specs.Ready.{Ready}
+use Rattle.table.specs.Value.{ValueOf}
 
 -- The mask of a cell as it is written: the digits keep their bits, the blacks move from 8 .. 11 to n - 1 .. n + 2.
 unfoldable pub mask : ℕ → ℕ → ℕ
@@ -28,21 +29,21 @@ pub record PublishedTable (n : ℕ) (l table : List ℕ) : Type 0 where
 abbrev pub maskAt : ℕ → List ℕ → ℕ → ℕ → ℕ
 maskAt n l r c = mask n (getD l (r * 9 + c) 0)
 
-abbrev pub cellAt : ℕ → List ℕ → ℕ → ℕ → ℕ
-cellAt n l r c = readCell n (tableIn l r c)
+abbrev pub cellByte : ℕ → List ℕ → ℕ → ℕ → ℕ
+cellByte n l r c = readCell n (tableIn l r c)
 
 -- The first n entries are written, and the others are as they were.
 unfoldable pub rowWritten : ℕ → (ℕ → ℕ) → List ℕ → List ℕ
 rowWritten n f l = map f (span 0 n) ++ drop n l
 
 -- A cell of the grid.
-pub record CellOf (n : ℕ) (l : List ℕ) (r c : ℕ) : Type 0 where
+pub record WriteCellAsk (n : ℕ) (l : List ℕ) (r c : ℕ) : Type 0 where
   pub ready : Ready n l
   pub row : r < n
   pub column : c < n
 
 -- A row of the grid, and room for it.
-pub record RowOf (n : ℕ) (l : List ℕ) (r room : ℕ) : Type 0 where
+pub record WriteRowAsk (n : ℕ) (l : List ℕ) (r room : ℕ) : Type 0 where
   pub ready : Ready n l
   pub row : r < n
   pub long : n ≤ room

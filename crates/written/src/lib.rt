@@ -7,11 +7,11 @@ ghost use lib.ListN.{length};
 ghost use Rattle.table.specs.Reading.{readOff};
 ghost use Rattle.slab.specs.Slab.{tableIn};
 ghost use Rattle.slab.specs.Ready.{Ready};
-ghost use Rattle.written.specs.Published.{maskAt, cellAt, rowWritten, PublishedTable, CellOf, RowOf};
+ghost use Rattle.written.specs.Published.{maskAt, cellByte, rowWritten, PublishedTable, WriteCellAsk, WriteRowAsk};
 
 // The mask of a cell as it is written: the digits keep their bits, the blacks move behind them.
 fn read_mask(st: &[u16], n: usize, r: usize, c: usize) -> u16
-    requires { ⌜ CellOf n (now st) r c ⌝ }
+    requires { ⌜ WriteCellAsk n (now st) r c ⌝ }
     ensures { λ m. ⌜ m ≡ maskAt n (now (st .entry)) r c ⌝ }
 {
     let m = st[r * 9 + c];
@@ -20,7 +20,7 @@ fn read_mask(st: &[u16], n: usize, r: usize, c: usize) -> u16
 
 // Writes the masks of row r to the first n entries.
 fn write_row(st: &[u16], n: usize, r: usize, row: &mut [u16])
-    requires { ⌜ RowOf n (now st) r (length (now row)) ⌝ }
+    requires { ⌜ WriteRowAsk n (now st) r (length (now row)) ⌝ }
     ensures { λ _. ⌜ now (row .exit) ≡ rowWritten n (maskAt n (now (st .entry)) r) (now (row .entry)) ⌝ }
 {
     let mut c = 0;
@@ -43,8 +43,8 @@ pub fn write_candidates(st: &[u16], n: usize, table: &mut [u16])
 
 // The lowest digit that a cell may have, or black.
 fn read_cell(st: &[u16], n: usize, r: usize, c: usize) -> u8
-    requires { ⌜ CellOf n (now st) r c ⌝ }
-    ensures { λ d. ⌜ d ≡ cellAt n (now (st .entry)) r c ⌝ }
+    requires { ⌜ WriteCellAsk n (now st) r c ⌝ }
+    ensures { λ d. ⌜ d ≡ cellByte n (now (st .entry)) r c ⌝ }
 {
     let digits = st[r * 9 + c] & 254;
     if digits == 0 {
@@ -55,8 +55,8 @@ fn read_cell(st: &[u16], n: usize, r: usize, c: usize) -> u8
 
 // Writes the cells of row r to the first n entries.
 fn write_grid_row(st: &[u16], n: usize, r: usize, row: &mut [u8])
-    requires { ⌜ RowOf n (now st) r (length (now row)) ⌝ }
-    ensures { λ _. ⌜ now (row .exit) ≡ rowWritten n (cellAt n (now (st .entry)) r) (now (row .entry)) ⌝ }
+    requires { ⌜ WriteRowAsk n (now st) r (length (now row)) ⌝ }
+    ensures { λ _. ⌜ now (row .exit) ≡ rowWritten n (cellByte n (now (st .entry)) r) (now (row .entry)) ⌝ }
 {
     let mut c = 0;
     while c < n {

@@ -1,5 +1,5 @@
 -- `arcs::black_shift` meets its contract. Assumes nothing.
-use Rattle.arcs.specs.SweepSteps.{shift-first, shift-second}
+use Rattle.arcs.proofs.SweepSteps.{shift-first, shift-second}
 use Rattle.arcs.proofs.black_shift.Statement.{statement}
 use Rattle.arcs.proofs.black_shift.Tie as tie
 

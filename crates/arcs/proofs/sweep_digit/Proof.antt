@@ -2,8 +2,8 @@
 use mathlib.Core.Path.{refl}
 use Prim.Native.Nat.{_-_}
 use native.Mathlib.Omega.{arith}
-use Rattle.arcs.specs.SweepSteps.{sweep-small, sweep-first, sweep-read, sweep-word, digit-keep, digit-drop, digit-have}
-use Rattle.arcs.specs.SweepLaws.{sweep-line, sweep-place, sweep-start, sweep-bounds, sweep-ask, sweep-end}
+use Rattle.arcs.proofs.SweepSteps.{sweep-small, sweep-first, sweep-read, sweep-word, digit-keep, digit-drop, digit-have}
+use Rattle.arcs.proofs.SweepLaws.{sweep-line, sweep-place, sweep-start, sweep-bounds, sweep-ask, sweep-end}
 use Rattle.arcs.specs.Have.{Have}
 use Rattle.arcs.specs.Sweep.{Sweeping}
 use borrow.Author.Needs.{needs}

@@ -1,5 +1,5 @@
 -- `arcs::update_black` meets its contract. Assumes nothing.
-use Rattle.arcs.specs.SweepLaws.{line-swept, line-skipped}
+use Rattle.arcs.proofs.SweepLaws.{line-swept, line-skipped}
 use borrow.Author.Needs.{needs}
 use Rattle.arcs.proofs.update_black.Statement.{statement}
 use Rattle.arcs.proofs.update_black.Tie as tie

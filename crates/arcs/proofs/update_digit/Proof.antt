@@ -1,5 +1,5 @@
 -- `arcs::update_digit` meets its contract. Assumes nothing.
-use Rattle.arcs.specs.SweepLaws.{line-swept, line-skipped}
+use Rattle.arcs.proofs.SweepLaws.{line-swept, line-skipped}
 use borrow.Author.Needs.{needs}
 use Rattle.arcs.proofs.update_digit.Statement.{statement}
 use Rattle.arcs.proofs.update_digit.Tie as tie

@@ -5,11 +5,11 @@ use mathlib.Core.List.{List}
 use native.Mathlib.Omega.{arith}
 use lib.Dec.{eqb}
 use lib.ListN.{length}
-use Rattle.tally.specs.TallyLaws.{and-left}
-use Rattle.backtrack.specs.Search.{Advanced, Searchable}
+use Rattle.tally.proofs.TallyLaws.{and-left}
+use Rattle.backtrack.specs.Search.{Advanced, SearchAsk}
 use Rattle.table.specs.Reading.{openCells, total}
 use Rattle.slab.specs.Slab.{tableIn}
-use Rattle.backtrack.specs.SearchLaws.{Turn, turn-start, turn-capped, turn-none, turn-one, turn-ask, turn-searchable, turn-fewer, turn-less, turn-again}
+use Rattle.backtrack.proofs.SearchLaws.{Turn, turn-start, turn-capped, turn-none, turn-one, turn-ask, turn-searchable, turn-fewer, turn-less, turn-again}
 use borrow.Author.Needs.{needs}
 use Prim.Native.Nat.{ℕ, _*_, _<_}
 use borrow.Fn.Kinds.{In}
@@ -46,7 +46,7 @@ search-μ-loop st₀ words n max wanted cells₀ found₀ st cells found = total
 
 -- the cells have room if the next grid is the first that is wanted
 first-fits : {n : ℕ} {ws l₀ l : List ℕ} {max found : ℕ} {wanted first : Bool} {cells₀ cells : List ℕ} → Turn n ws l₀ max wanted cells₀ l found cells →
-    Searchable n ws l₀ wanted (length cells₀) → first ≡ (wanted && eqb found 0) → first ≡ true → length cells ≡ n * n
+    SearchAsk n ws l₀ wanted (length cells₀) → first ≡ (wanted && eqb found 0) → first ≡ true → length cells ≡ n * n
 first-fits t s f e = t .room ∙ s .fits (and-left _ _ (sym f ∙ e))
 
 search-loop-holds : (t : ℕ) → search-lts.Need-loop-holds (R t) (search-at t) search′.Post search-Inv-loop search-μ-loop

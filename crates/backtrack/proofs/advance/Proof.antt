@@ -3,7 +3,7 @@ use mathlib.Core.Path.{subst}
 use borrow.Author.Needs.{needs}
 use borrow.Author.Tests.{not-true, not-false}
 use Rattle.pick.specs.Choice.{Picked}
-use Rattle.backtrack.specs.AdvanceLaws.{advance-none, advance-ready, advance-one, advance-branch}
+use Rattle.backtrack.proofs.AdvanceLaws.{advance-none, advance-ready, advance-one, advance-branch}
 use Rattle.backtrack.proofs.advance.Statement.{statement}
 use Rattle.backtrack.proofs.advance.Tie as tie
 

@@ -5,7 +5,7 @@ use native.Mathlib.Omega.{arith}
 use native.Mathlib.Nat.{min-eq-left}
 use lib.ListN.{length-take}
 use Rattle.doppelblock.specs.Entries.{mostLent}
-use Rattle.doppelblock.specs.EntryLaws.{entries-length}
+use Rattle.doppelblock.proofs.EntryLaws.{entries-length}
 use borrow.Author.Needs.{needs}
 use Rattle.doppelblock.proofs.doppelblock_candidates.Statement.{statement}
 use Rattle.doppelblock.proofs.doppelblock_candidates.Tie as tie

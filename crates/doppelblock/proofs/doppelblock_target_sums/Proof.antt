@@ -1,6 +1,7 @@
 -- `doppelblock::doppelblock_target_sums` meets its contract. Assumes nothing.
 use mathlib.Core.Path.{ap, _∙_}
-use Rattle.target_sums.specs.Answer.{numberOf, number-summed}
+use Rattle.target_sums.specs.Answer.{numberOf}
+use Rattle.target_sums.proofs.SumsLaws.{number-summed}
 use borrow.Author.Needs.{needs}
 use Rattle.doppelblock.proofs.doppelblock_target_sums.Statement.{statement}
 use Rattle.doppelblock.proofs.doppelblock_target_sums.Tie as tie

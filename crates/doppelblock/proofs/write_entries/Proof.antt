@@ -3,13 +3,13 @@ use Prim.Native.Nat.{_-_, _≤_}
 use lib.ListN.{length, length-set}
 use mathlib.Core.Path.{refl}
 use native.Mathlib.Omega.{arith}
-use Rattle.doppelblock.specs.EntryLaws.{Filled, filled-start, filled-next, filled-end}
+use Rattle.doppelblock.proofs.EntryLaws.{EntriesFilled, filled-start, filled-next, filled-end}
 use borrow.Author.Needs.{needs}
 use Rattle.doppelblock.proofs.write_entries.Statement.{statement}
 use Rattle.doppelblock.proofs.write_entries.Tie as tie
 
 abbrev Inv-loop : tie.InvT-loop
-Inv-loop entries bytes₀ i₀ bytes i = (i ≤ length entries) × Filled entries bytes₀ bytes i
+Inv-loop entries bytes₀ i₀ bytes i = (i ≤ length entries) × EntriesFilled entries bytes₀ bytes i
 
 abbrev μ-loop : tie.MeasureT-loop
 μ-loop entries bytes₀ i₀ bytes i = length entries - i

@@ -1,7 +1,7 @@
 -- `engine::solve_grids` meets its contract. Assumes nothing.
-use Rattle.fresh.specs.FillLaws.{blank-zeros}
-use Rattle.engine.specs.CountLaws.{count-prepare}
-use Rattle.engine.specs.SolveLaws.{solve-count, solve-none, solve-search, solve-found}
+use Rattle.fresh.proofs.FillLaws.{blank-zeros}
+use Rattle.engine.proofs.CountLaws.{count-prepare}
+use Rattle.engine.proofs.SolveLaws.{solve-count, solve-none, solve-search, solve-found}
 use borrow.Author.Needs.{needs}
 use borrow.Author.Tests.{not-true, not-false}
 use Rattle.engine.proofs.solve_grids.Statement.{statement}

@@ -1,5 +1,5 @@
 -- `engine::verdict` meets its contract. Assumes nothing.
-use Rattle.engine.specs.SolveLaws.{verdict-0, verdict-1, verdict-2}
+use Rattle.engine.proofs.SolveLaws.{verdict-0, verdict-1, verdict-2}
 use Rattle.engine.proofs.verdict.Statement.{statement}
 use Rattle.engine.proofs.verdict.Tie as tie
 

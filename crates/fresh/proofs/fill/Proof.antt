@@ -1,6 +1,6 @@
 -- `fresh::fill` meets its contract: the places below i are filled. Assumes nothing.
 use mathlib.Core.Path.{_≡_}
-use Rattle.fresh.specs.FillLaws.{fill-start, fill-next}
+use Rattle.fresh.proofs.FillLaws.{fill-start, fill-next}
 use Rattle.fresh.specs.Fresh.{Filled}
 use native.Mathlib.Omega.{arith}
 use Prim.Native.Nat.{_≤_, _-_}

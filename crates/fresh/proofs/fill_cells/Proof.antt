@@ -1,5 +1,5 @@
 -- `fresh::fill_cells` meets its contract: the first r rows are full. Assumes nothing.
-use Rattle.fresh.specs.FillLaws.{rows-start, rows-next}
+use Rattle.fresh.proofs.FillLaws.{rows-start, rows-next}
 use Rattle.fresh.specs.Fresh.{RowsFull}
 use native.Mathlib.Omega.{arith}
 use mathlib.Core.Path.{_≡_}

@@ -1,5 +1,5 @@
 -- `fresh::fresh` meets its contract. Assumes nothing.
-use Rattle.fresh.specs.FillLaws.{fresh-done}
+use Rattle.fresh.proofs.FillLaws.{fresh-done}
 use borrow.Author.Needs.{needs}
 use Rattle.fresh.proofs.fresh.Statement.{statement}
 use Rattle.fresh.proofs.fresh.Tie as tie

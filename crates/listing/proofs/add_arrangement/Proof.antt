@@ -1,5 +1,5 @@
 -- `listing::add_arrangement` meets its contract. Assumes nothing.
-use Rattle.listing.specs.AddLaws.{add-ask, add-done}
+use Rattle.listing.proofs.AddLaws.{add-ask, add-done}
 use lib.ListN.{length-set}
 use native.Mathlib.Omega.{arith}
 use borrow.Author.Needs.{needs}

@@ -2,7 +2,7 @@ use mathlib.Core.Path.{_≡_}
 use native.Mathlib.Omega.{arith}
 use mathlib.Core.Logic.{⊎-elim}
 -- `listing::add_inner` meets its contract. Assumes nothing.
-use Rattle.listing.specs.RaiseLaws.{inner-start, inner-can, inner-yes, inner-no}
+use Rattle.listing.proofs.RaiseLaws.{inner-start, inner-can, inner-yes, inner-no}
 use Rattle.listing.specs.Listing.{Raised, innerTo}
 use Prim.Native.Nat.{_≤_, _-_}
 use borrow.Author.Needs.{needs}

@@ -1,5 +1,5 @@
 -- `listing::open_arrangements` meets its contract. Assumes nothing.
-use Rattle.listing.specs.LineLaws.{rows-ask, columns-ask, all-arranged}
+use Rattle.listing.proofs.LineLaws.{rows-ask, columns-ask, all-arranged}
 use borrow.Author.Needs.{needs}
 use Rattle.listing.proofs.open_arrangements.Statement.{statement}
 use Rattle.listing.proofs.open_arrangements.Tie as tie

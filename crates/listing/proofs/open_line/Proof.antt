@@ -1,5 +1,5 @@
 -- `listing::open_line` meets its contract. Assumes nothing.
-use Rattle.listing.specs.LineLaws.{inside-ask, outside-ask, line-added}
+use Rattle.listing.proofs.LineLaws.{inside-ask, outside-ask, line-added}
 use borrow.Author.Needs.{needs}
 use Rattle.listing.proofs.open_line.Statement.{statement}
 use Rattle.listing.proofs.open_line.Tie as tie

@@ -1,5 +1,5 @@
 -- `listing::open_lines` meets its contract. Assumes nothing.
-use Rattle.listing.specs.LineLaws.{lines-start, lines-ask, lines-next}
+use Rattle.listing.proofs.LineLaws.{lines-start, lines-ask, lines-next}
 use Rattle.listing.specs.Listing.{LinesTo}
 use native.Mathlib.Omega.{arith}
 use mathlib.Core.Path.{_≡_}

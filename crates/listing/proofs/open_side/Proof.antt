@@ -1,5 +1,5 @@
 -- `listing::open_side` meets its contract. Assumes nothing.
-use Rattle.listing.specs.AddLaws.{sum-ask, sum-added}
+use Rattle.listing.proofs.AddLaws.{sum-ask, sum-added}
 use borrow.Author.Needs.{needs}
 use Rattle.listing.proofs.open_side.Statement.{statement}
 use Rattle.listing.proofs.open_side.Tie as tie

@@ -1,5 +1,5 @@
 -- `listing::open_starts` meets its contract. Assumes nothing.
-use Rattle.listing.specs.AddLaws.{adding-start, starts-ask, starts-next, starts-skip, starts-end}
+use Rattle.listing.proofs.AddLaws.{adding-start, starts-ask, starts-next, starts-skip, starts-end}
 use Rattle.listing.specs.Listing.{Adding}
 use Rattle.listing.specs.Numbers.{startsFrom}
 use mathlib.Core.Logic.{⊎-elim}

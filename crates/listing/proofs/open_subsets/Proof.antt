@@ -1,5 +1,5 @@
 -- `listing::open_subsets` meets its contract. Assumes nothing.
-use Rattle.listing.specs.AddLaws.{adding-start, side-ask, side-next, side-skip, side-end}
+use Rattle.listing.proofs.AddLaws.{adding-start, side-ask, side-next, side-skip, side-end}
 use Rattle.listing.specs.Listing.{Adding}
 use Rattle.listing.specs.Numbers.{sideFrom}
 use Rattle.words.specs.Word.{subset, subsetTable}

@@ -5,7 +5,7 @@ use native.Mathlib.Omega.{arith}
 use lib.ListN.{length, drop}
 use Rattle.rules.specs.Mark.{marksOf}
 use Rattle.rules.specs.Check.{refusal, checkMark, markChecks}
-use Rattle.mark_list.specs.MarkLaws.{list-stop, list-skip, list-end}
+use Rattle.mark_list.proofs.MarkLaws.{list-stop, list-skip, list-end}
 use borrow.Author.Needs.{needs}
 use Rattle.mark_list.proofs.marks_refusal.Statement.{statement}
 use Rattle.mark_list.proofs.marks_refusal.Tie as tie

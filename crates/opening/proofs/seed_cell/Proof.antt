@@ -1,5 +1,5 @@
 -- `opening::seed_cell` meets its contract. Assumes nothing.
-use Rattle.opening.specs.SeedLaws.{cell-struck}
+use Rattle.opening.proofs.SeedLaws.{cell-struck}
 use borrow.Author.Needs.{needs}
 use Rattle.opening.proofs.seed_cell.Statement.{statement}
 use Rattle.opening.proofs.seed_cell.Tie as tie

@@ -1,5 +1,5 @@
 -- `opening::seed_queue` meets its contract. Assumes nothing.
-use Rattle.opening.specs.SeedLaws.{queue-start, queue-next}
+use Rattle.opening.proofs.SeedLaws.{queue-start, queue-next}
 use Rattle.opening.specs.Opening.{BareTo}
 use Rattle.slab.specs.Slab.{Struck}
 use native.Mathlib.Omega.{arith}

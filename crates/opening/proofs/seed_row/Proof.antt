@@ -1,5 +1,5 @@
 -- `opening::seed_row` meets its contract. Assumes nothing.
-use Rattle.opening.specs.SeedLaws.{row-start, row-next}
+use Rattle.opening.proofs.SeedLaws.{row-start, row-next}
 use Rattle.opening.specs.Opening.{BareIn}
 use Rattle.slab.specs.Slab.{Struck}
 use native.Mathlib.Omega.{arith}

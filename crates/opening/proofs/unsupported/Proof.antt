@@ -1,6 +1,6 @@
 use mathlib.Core.Path.{_≡_}
 -- `opening::unsupported` meets its contract. Assumes nothing.
-use Rattle.opening.specs.SeedLaws.{lacks-start, lacks-more, lacks-same}
+use Rattle.opening.proofs.SeedLaws.{lacks-start, lacks-more, lacks-same}
 use Rattle.opening.specs.Opening.{Lacks}
 use native.Mathlib.Omega.{arith}
 use mathlib.Core.Logic.{⊎-elim}

@@ -1,5 +1,5 @@
 -- `pick::freedom` meets its contract. Assumes nothing.
-use Rattle.pick.specs.ChoiceLaws.{freedom-choices}
+use Rattle.pick.proofs.ChoiceLaws.{freedom-choices}
 use borrow.Author.Needs.{needs}
 use Rattle.pick.proofs.freedom.Statement.{statement}
 use Rattle.pick.proofs.freedom.Tie as tie

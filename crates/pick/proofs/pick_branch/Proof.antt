@@ -1,6 +1,6 @@
 -- `pick::pick_branch` meets its contract. Assumes nothing.
 use borrow.Author.Needs.{needs}
-use Rattle.pick.specs.Scanning.{sought-none, sought-place}
+use Rattle.pick.proofs.ScanningLaws.{sought-none, sought-place}
 use Rattle.pick.proofs.pick_branch.Statement.{statement}
 use Rattle.pick.proofs.pick_branch.Tie as tie
 

@@ -1,7 +1,7 @@
 -- `prepare::prepare` meets its contract. Assumes nothing.
 use borrow.Author.Needs.{needs}
 use borrow.Author.Tests.{not-true, not-false}
-use Rattle.prepare.specs.PrepareLaws.{prepare-size, prepare-open, prepare-propagable, prepare-none, prepare-marks, prepare-done}
+use Rattle.prepare.proofs.PrepareLaws.{prepare-size, prepare-open, prepare-propagable, prepare-none, prepare-marks, prepare-done}
 use Rattle.prepare.proofs.prepare.Statement.{statement}
 use Rattle.prepare.proofs.prepare.Tie as tie
 

@@ -1,8 +1,8 @@
 -- `propagate::propagate` meets its contract. Assumes nothing.
 use native.Mathlib.Omega.{arith}
 use Prim.Native.Nat.{_+_, _-_, _/_}
-use Rattle.propagate.specs.Loop.{Propagating, loop-start, loop-size, loop-tail, loop-cell, loop-ask, loop-empty, loop-next}
-use Rattle.propagate.specs.Rest.{loop-end}
+use Rattle.propagate.proofs.Loop.{Propagating, loop-start, loop-size, loop-tail, loop-cell, loop-ask, loop-empty, loop-next}
+use Rattle.propagate.proofs.Rest.{loop-end}
 use mathlib.Core.Path.{refl}
 use lib.ListN.{getD}
 use borrow.Author.Needs.{needs, fits-under}

@@ -1,6 +1,6 @@
 -- `propagate::update` meets its contract. Assumes nothing.
 use borrow.Author.Needs.{needs}
-use Rattle.propagate.specs.UpdateLaws.{update-first, update-second, update-third, update-fourth, update-done}
+use Rattle.propagate.proofs.UpdateLaws.{update-first, update-second, update-third, update-fourth, update-done}
 use Rattle.propagate.proofs.update.Statement.{statement}
 use Rattle.propagate.proofs.update.Tie as tie
 

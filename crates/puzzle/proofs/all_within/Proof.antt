@@ -6,7 +6,7 @@ use lib.Dec.{leb}
 use lib.ListN.{length, getD, drop}
 use borrow.Author.Tests.{le-leb, lt-leb}
 use Rattle.tally.specs.Tally.{all}
-use Rattle.rules.specs.EachLaws.{list-yes, list-no, list-end}
+use Rattle.rules.proofs.EachLaws.{list-yes, list-no, list-end}
 use borrow.Author.Needs.{needs}
 use Rattle.puzzle.proofs.all_within.Statement.{statement}
 use Rattle.puzzle.proofs.all_within.Tie as tie

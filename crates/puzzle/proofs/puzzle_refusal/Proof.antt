@@ -1,8 +1,8 @@
 -- `puzzle::puzzle_refusal` meets its contract: the checks' laws, in their order. Assumes nothing.
 use borrow.Author.Needs.{needs}
-use Rattle.rules.specs.CheckLaws.{said-yes, said-no}
-use Rattle.rules.specs.SizeLaws.{size-in}
-use Rattle.puzzle.specs.PuzzleLaws.{puzzle-1, puzzle-2, puzzle-3-rows, puzzle-3-columns, puzzle-0}
+use Rattle.rules.proofs.CheckLaws.{said-yes, said-no}
+use Rattle.rules.proofs.SizeLaws.{size-in}
+use Rattle.puzzle.proofs.PuzzleLaws.{puzzle-1, puzzle-2, puzzle-3-rows, puzzle-3-columns, puzzle-0}
 use Rattle.puzzle.proofs.puzzle_refusal.Statement.{statement}
 use Rattle.puzzle.proofs.puzzle_refusal.Tie as tie
 

@@ -1,6 +1,6 @@
 -- `replay_records::agrees` meets its contract. Assumes nothing.
 use borrow.Author.Needs.{needs}
-use Rattle.replay_records.specs.ReplayLaws.{finds-sums, finds-sheet, finds-table, finds-count, finds-cells, finds-none}
+use Rattle.replay_records.proofs.ReplayLaws.{finds-sums, finds-sheet, finds-table, finds-count, finds-cells, finds-none}
 use Rattle.replay_records.proofs.agrees.Statement.{statement}
 use Rattle.replay_records.proofs.agrees.Tie as tie
 

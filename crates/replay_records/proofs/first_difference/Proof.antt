@@ -3,7 +3,7 @@ use Prim.Native.Nat.{_-_, _≤_}
 use native.Mathlib.Omega.{arith}
 use lib.ListN.{length}
 use borrow.Author.Needs.{needs}
-use Rattle.replay_records.specs.ReplayLaws.{replayed-onward, Leads, leads-begin, leads-end, leads-here, leads-later}
+use Rattle.replay_records.proofs.ReplayLaws.{replayed-onward, Leads, leads-begin, leads-end, leads-here, leads-later}
 use Rattle.replay_records.proofs.first_difference.Statement.{statement}
 use Rattle.replay_records.proofs.first_difference.Tie as tie
 

@@ -1,6 +1,6 @@
 -- `replay_records::replay` meets its contract. Assumes nothing.
 use borrow.Author.Needs.{needs}
-use Rattle.replay_records.specs.ReplayLaws.{replayed-none, replayed-one}
+use Rattle.replay_records.proofs.ReplayLaws.{replayed-none, replayed-one}
 use Rattle.replay_records.proofs.replay.Statement.{statement}
 use Rattle.replay_records.proofs.replay.Tie as tie
 

@@ -1,7 +1,7 @@
 -- `set_cell::clear_around` meets its contract. Assumes nothing.
 use native.Mathlib.Omega.{arith}
-use Rattle.slab.specs.StruckLaws.{struck-both}
-use Rattle.set_cell.specs.SetLaws.{ask-grown, ask-row-blacks, ask-column-blacks, some-struck, none-struck}
+use Rattle.slab.proofs.StruckLaws.{struck-both}
+use Rattle.set_cell.proofs.SetLaws.{ask-grown, ask-row-blacks, ask-column-blacks, some-struck, none-struck}
 use borrow.Author.Needs.{needs}
 use Rattle.set_cell.proofs.clear_around.Statement.{statement}
 use Rattle.set_cell.proofs.clear_around.Tie as tie

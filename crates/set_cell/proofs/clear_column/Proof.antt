@@ -1,5 +1,5 @@
 -- `set_cell::clear_column` meets its contract. Assumes nothing.
-use Rattle.set_cell.specs.SetLaws.{ask-column, test-struck, test-none}
+use Rattle.set_cell.proofs.SetLaws.{ask-column, test-struck, test-none}
 use borrow.Author.Needs.{needs}
 use Rattle.set_cell.proofs.clear_column.Statement.{statement}
 use Rattle.set_cell.proofs.clear_column.Tie as tie

@@ -1,5 +1,5 @@
 -- `set_cell::clear_row` meets its contract. Assumes nothing.
-use Rattle.set_cell.specs.SetLaws.{ask-row, test-struck, test-none}
+use Rattle.set_cell.proofs.SetLaws.{ask-row, test-struck, test-none}
 use borrow.Author.Needs.{needs}
 use Rattle.set_cell.proofs.clear_row.Statement.{statement}
 use Rattle.set_cell.proofs.clear_row.Tie as tie

@@ -1,5 +1,5 @@
 -- `set_cell::in_column` meets its contract. Assumes nothing.
-use Rattle.set_cell.specs.SettingLaws.{low-in-column, high-in-column}
+use Rattle.set_cell.proofs.SettingLaws.{low-in-column, high-in-column}
 use Rattle.set_cell.proofs.in_column.Statement.{statement}
 use Rattle.set_cell.proofs.in_column.Tie as tie
 

@@ -1,5 +1,5 @@
 -- `marking::meets_target` meets its contract. Assumes nothing.
-use Rattle.rules.specs.Line.{meets}
+use Rattle.rules.specs.Grid.{meets}
 use borrow.Author.Needs.{needs}
 use Rattle.sheet_marking.proofs.meets_target.Statement.{statement}
 use Rattle.sheet_marking.proofs.meets_target.Tie as tie

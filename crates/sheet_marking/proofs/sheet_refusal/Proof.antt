@@ -1,9 +1,9 @@
 -- `marking::sheet_refusal` meets its contract: the checks' laws, in their order. Assumes nothing.
 use native.Mathlib.Omega.{arith}
 use borrow.Author.Needs.{needs}
-use Rattle.rules.specs.SizeLaws.{Size}
-use Rattle.sheet_marking.specs.MarkingLaws.{sheet-puzzle, sheet-7, sheet-0}
-use Rattle.puzzle.specs.PuzzleLaws.{passed-size}
+use Rattle.rules.specs.Size.{Size}
+use Rattle.sheet_marking.proofs.MarkingLaws.{sheet-puzzle, sheet-7, sheet-0}
+use Rattle.puzzle.proofs.PuzzleLaws.{passed-size}
 use Rattle.sheet_marking.proofs.sheet_refusal.Statement.{statement}
 use Rattle.sheet_marking.proofs.sheet_refusal.Tie as tie
 

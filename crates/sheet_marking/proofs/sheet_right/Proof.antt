@@ -1,6 +1,6 @@
 -- `marking::sheet_right` meets its contract. Assumes nothing.
-use Rattle.target_sums.specs.SumsLaws.{rows-within, columns-within}
-use Rattle.sheet_marking.specs.MarkingLaws.{wrong-row, wrong-column, other-row, by-columns}
+use Rattle.target_sums.proofs.SumsLaws.{rows-within, columns-within}
+use Rattle.sheet_marking.proofs.MarkingLaws.{wrong-row, wrong-column, other-row, by-columns}
 use borrow.Author.Needs.{needs}
 use Rattle.sheet_marking.proofs.sheet_right.Statement.{statement}
 use Rattle.sheet_marking.proofs.sheet_right.Tie as tie

@@ -4,9 +4,9 @@ use mathlib.Core.Path.{_≡_, sym, ap, _∙_}
 use native.Mathlib.Omega.{arith}
 use borrow.Author.Tests.{not-true, not-false}
 use Rattle.tally.specs.Tally.{all, span}
-use Rattle.rules.specs.Line.{meets}
-use Rattle.rules.specs.EachLaws.{below-yes, below-no, below-end}
-use Rattle.sheet_marking.specs.MarkingLaws.{meetsAt}
+use Rattle.rules.specs.Grid.{meets}
+use Rattle.rules.proofs.EachLaws.{below-yes, below-no, below-end}
+use Rattle.sheet_marking.proofs.MarkingLaws.{meetsAt}
 use borrow.Author.Needs.{needs}
 use Rattle.sheet_marking.proofs.sums_meet.Statement.{statement}
 use Rattle.sheet_marking.proofs.sums_meet.Tie as tie

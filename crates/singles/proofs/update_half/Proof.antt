@@ -1,7 +1,7 @@
 -- `singles::update_half` meets its contract. Assumes nothing.
 use native.Mathlib.Omega.{arith}
-use Rattle.set_cell.specs.SetLaws.{ask-value}
-use Rattle.singles.specs.HalfLaws.{half-cell, half-passed, half-lower, half-more, half-empty, half-set-ask, half-settled}
+use Rattle.set_cell.proofs.SetLaws.{ask-value}
+use Rattle.singles.proofs.HalfLaws.{half-cell, half-passed, half-lower, half-more, half-empty, half-set-ask, half-settled}
 use borrow.Author.Needs.{needs, fits-under}
 use Rattle.singles.proofs.update_half.Statement.{statement}
 use Rattle.singles.proofs.update_half.Tie as tie

@@ -1,6 +1,6 @@
 -- `slab::clear_value` meets its contract. Assumes nothing.
 use Rattle.bits.specs.Bit.{bit}
-use Rattle.slab.specs.SlabLaws.{strike-absent}
+use Rattle.slab.proofs.SlabLaws.{strike-absent}
 use borrow.Author.Needs.{needs}
 use Rattle.slab.proofs.clear_value.Statement.{statement}
 use Rattle.slab.proofs.clear_value.Tie as tie

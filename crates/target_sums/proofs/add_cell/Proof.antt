@@ -2,7 +2,7 @@
 use mathlib.Core.Path.{refl}
 use native.Mathlib.Omega.{arith}
 use borrow.Author.Needs.{needs}
-use Rattle.target_sums.specs.ScanLaws.{next-black, next-off, next-empty, next-number}
+use Rattle.target_sums.proofs.ScanLaws.{next-black, next-off, next-empty, next-number}
 use Rattle.target_sums.proofs.add_cell.Statement.{statement}
 use Rattle.target_sums.proofs.add_cell.Tie as tie
 

@@ -1,6 +1,6 @@
 -- `grid::compute_targets` meets its contract. Assumes nothing.
 use borrow.Author.Needs.{needs}
-use Rattle.target_sums.specs.SumsLaws.{rows-ready, columns-ready, refused, done}
+use Rattle.target_sums.proofs.SumsLaws.{rows-ready, columns-ready, refused, done}
 use Rattle.target_sums.proofs.compute_targets.Statement.{statement}
 use Rattle.target_sums.proofs.compute_targets.Tie as tie
 

@@ -4,13 +4,13 @@ use mathlib.Core.Path.{_≡_, sym, _∙_}
 use native.Mathlib.Omega.{arith}
 use Rattle.rules.specs.Check.{refusal}
 use Rattle.rules.specs.Strided.{each}
-use Rattle.target_sums.specs.LineLaws.{lineAt, ahead, ahead-skip, ahead-stop, ahead-end}
+use Rattle.target_sums.proofs.LineLaws.{lineFrom, ahead, ahead-skip, ahead-stop, ahead-end}
 use borrow.Author.Needs.{needs}
 use Rattle.target_sums.proofs.lines_refusal.Statement.{statement}
 use Rattle.target_sums.proofs.lines_refusal.Tie as tie
 
 abbrev Inv-loop : tie.InvT-loop
-Inv-loop cells step stride n i₀ i = (i ≤ n) × (refusal (ahead (lineAt step stride cells n) 0 n) ≡ refusal (ahead (lineAt step stride cells n) i (n - i)))
+Inv-loop cells step stride n i₀ i = (i ≤ n) × (refusal (ahead (lineFrom step stride cells n) 0 n) ≡ refusal (ahead (lineFrom step stride cells n) i (n - i)))
 
 abbrev μ-loop : tie.MeasureT-loop
 μ-loop cells step stride n i₀ i = n - i
@@ -32,7 +32,7 @@ returns c =
     let i = c .before .before .before .loop .i in
     let a = c .before .before .before .before .before .args in
     let k = c .before .line-refusal .ensures in
-    k ∙ sym (c .before .before .before .loop .inv .1 ∙ ahead-stop (lineAt (a .step) (a .stride) (a .cells .now) (a .n)) i (a .n) (c .before .before .loop-test .taken) (λ e. c .if1 .taken (k ∙ e)))
+    k ∙ sym (c .before .before .before .loop .inv .1 ∙ ahead-stop (lineFrom (a .step) (a .stride) (a .cells .now) (a .n)) i (a .n) (c .before .before .loop-test .taken) (λ e. c .if1 .taken (k ∙ e)))
 
 add-i : tie.Need-add-i Inv-loop μ-loop
 add-i c = search needs
@@ -45,13 +45,13 @@ loop-again c =
     let i = c .before .before .before .loop .i in
     let a = c .before .before .before .before .before .args in
     let k = c .before .line-refusal .ensures in
-    (search needs, c .before .before .before .loop .inv .1 ∙ ahead-skip (lineAt (a .step) (a .stride) (a .cells .now) (a .n)) i (a .n) (c .before .before .loop-test .taken) (sym k ∙ c .if1 .left))
+    (search needs, c .before .before .before .loop .inv .1 ∙ ahead-skip (lineFrom (a .step) (a .stride) (a .cells .now) (a .n)) i (a .n) (c .before .before .loop-test .taken) (sym k ∙ c .if1 .left))
 
 returns-2 : tie.Need-returns-2 Inv-loop μ-loop
 unfolding each ahead
 returns-2 c =
     let a = c .before .before .before .args in
-    sym (c .before .loop .inv .1 ∙ ahead-end (lineAt (a .step) (a .stride) (a .cells .now) (a .n)) (c .before .loop .i) (a .n) (c .loop-test .left))
+    sym (c .before .loop .inv .1 ∙ ahead-end (lineFrom (a .step) (a .stride) (a .cells .now) (a .n)) (c .before .loop .i) (a .n) (c .loop-test .left))
 
 pub lines-refusal-spec : {M : Type 1} → statement M
 lines-refusal-spec =

@@ -5,9 +5,9 @@ use native.Mathlib.Omega.{arith}
 use lib.ListN.{length, take, length-set}
 use lib.Seq.{take-all}
 use Rattle.tally.specs.Tally.{span}
-use Rattle.rules.specs.Line.{lineSum}
+use Rattle.rules.specs.Grid.{lineSum}
 use Rattle.rules.specs.Strided.{each}
-use Rattle.target_sums.specs.LineLaws.{fill-next}
+use Rattle.target_sums.proofs.LineLaws.{fill-next}
 use borrow.Author.Needs.{needs}
 use Rattle.target_sums.proofs.put_sums.Statement.{statement}
 use Rattle.target_sums.proofs.put_sums.Tie as tie

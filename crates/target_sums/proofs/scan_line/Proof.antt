@@ -4,9 +4,10 @@ use mathlib.Core.Path.{_≡_, refl}
 use native.Mathlib.Omega.{arith}
 use borrow.Author.Needs.{needs}
 use Rattle.tally.specs.Tally.{span}
-use Rattle.rules.specs.Strided.{strided, strided-next}
+use Rattle.rules.proofs.StridedLaws.{strided-next}
+use Rattle.rules.specs.Strided.{strided}
 use Rattle.target_sums.specs.Scanning.{Seen, Small}
-use Rattle.target_sums.specs.ScanLaws.{seen-none}
+use Rattle.target_sums.proofs.ScanLaws.{seen-none}
 use Rattle.target_sums.proofs.scan_line.Statement.{statement}
 use Rattle.target_sums.proofs.scan_line.Tie as tie
 

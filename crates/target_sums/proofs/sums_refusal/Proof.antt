@@ -1,9 +1,9 @@
 -- `grid::sums_refusal` meets its contract: the checks' laws, in their order. Assumes nothing.
 use native.Mathlib.Omega.{arith}
 use borrow.Author.Needs.{needs}
-use Rattle.rules.specs.CheckLaws.{said-yes, said-no}
-use Rattle.rules.specs.SizeLaws.{size-in}
-use Rattle.target_sums.specs.SumsLaws.{rows-within, columns-within, sums-1, sums-7, sums-2, sums-rows, sums-columns}
+use Rattle.rules.proofs.CheckLaws.{said-yes, said-no}
+use Rattle.rules.proofs.SizeLaws.{size-in}
+use Rattle.target_sums.proofs.SumsLaws.{rows-within, columns-within, sums-1, sums-7, sums-2, sums-rows, sums-columns}
 use Rattle.target_sums.proofs.sums_refusal.Statement.{statement}
 use Rattle.target_sums.proofs.sums_refusal.Tie as tie
 

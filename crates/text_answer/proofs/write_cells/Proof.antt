@@ -2,7 +2,7 @@
 use Prim.Native.Nat.{_-_}
 use lib.ListN.{length}
 use Rattle.text_rules.specs.Text.{cellText}
-use Rattle.text_answer.specs.PutLaws.{Copied, copied-start, copied-end, cell-at, cells-next}
+use Rattle.text_answer.proofs.PutLaws.{Copied, copied-start, copied-end, cell-at, cells-next}
 use borrow.Author.Needs.{needs}
 use Rattle.text_answer.proofs.write_cells.Statement.{statement}
 use Rattle.text_answer.proofs.write_cells.Tie as tie

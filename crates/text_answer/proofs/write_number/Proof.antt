@@ -1,5 +1,5 @@
 -- `sheet_text::write_number` meets its contract. Assumes nothing.
-use Rattle.text_answer.specs.PutLaws.{number-one, number-two}
+use Rattle.text_answer.proofs.PutLaws.{number-one, number-two}
 use borrow.Author.Needs.{needs}
 use Rattle.text_answer.proofs.write_number.Statement.{statement}
 use Rattle.text_answer.proofs.write_number.Tie as tie

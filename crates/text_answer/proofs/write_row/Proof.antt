@@ -1,7 +1,7 @@
 -- `sheet_text::write_row` meets its contract. Assumes nothing.
 use native.Mathlib.Omega.{arith}
-use Rattle.text_answer.specs.PutLaws.{put-both}
-use Rattle.text_answer.specs.RowLaws.{row-first, row-later, row-cells, row-cells-later}
+use Rattle.text_answer.proofs.PutLaws.{put-both}
+use Rattle.text_answer.proofs.RowLaws.{row-first, row-later, row-cells, row-cells-later}
 use borrow.Author.Needs.{needs}
 use Rattle.text_answer.proofs.write_row.Statement.{statement}
 use Rattle.text_answer.proofs.write_row.Tie as tie

@@ -1,6 +1,6 @@
 -- `sheet_numbers::decimal` meets its contract. Assumes nothing.
-use Rattle.rules.specs.CheckLaws.{said-yes, said-no}
-use Rattle.text_numbers.specs.ValueLaws.{decimal-shaped, decimal-unshaped}
+use Rattle.rules.proofs.CheckLaws.{said-yes, said-no}
+use Rattle.text_numbers.proofs.ValueLaws.{decimal-shaped, decimal-unshaped}
 use borrow.Author.Needs.{needs}
 use Rattle.text_numbers.proofs.decimal.Statement.{statement}
 use Rattle.text_numbers.proofs.decimal.Tie as tie

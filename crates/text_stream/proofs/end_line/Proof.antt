@@ -1,7 +1,7 @@
 -- `sheet_stream::end_line` meets its contract. Assumes nothing.
 use native.Mathlib.Omega.{arith}
-use Rattle.text_line.specs.PuzzleTextLaws.{front-long}
-use Rattle.text_stream.specs.FedLaws.{ended-count, ended-room, line-ended}
+use Rattle.text_line.proofs.PuzzleTextLaws.{front-long}
+use Rattle.text_stream.proofs.FedLaws.{ended-count, ended-room, line-ended}
 use borrow.Author.Needs.{needs}
 use Rattle.text_stream.proofs.end_line.Statement.{statement}
 use Rattle.text_stream.proofs.end_line.Tie as tie

@@ -1,7 +1,7 @@
 -- `sheet_stream::feed_byte` meets its contract. Assumes nothing.
 use native.Mathlib.Omega.{arith}
-use Rattle.text_line.specs.PuzzleTextLaws.{front-long}
-use Rattle.text_stream.specs.FedLaws.{fed-end, fed-byte}
+use Rattle.text_line.proofs.PuzzleTextLaws.{front-long}
+use Rattle.text_stream.proofs.FedLaws.{fed-end, fed-byte}
 use borrow.Author.Needs.{needs}
 use Rattle.text_stream.proofs.feed_byte.Statement.{statement}
 use Rattle.text_stream.proofs.feed_byte.Tie as tie

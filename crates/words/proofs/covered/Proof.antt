@@ -1,5 +1,5 @@
 -- `words::covered` meets its contract. Assumes nothing.
-use Rattle.words.specs.CodeLaws.{shl-covered}
+use Rattle.words.proofs.CodeLaws.{shl-covered}
 use borrow.Author.Needs.{needs}
 use Rattle.words.proofs.covered.Statement.{statement}
 use Rattle.words.proofs.covered.Tie as tie

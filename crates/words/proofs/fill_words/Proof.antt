@@ -2,7 +2,7 @@
 use mathlib.Core.Logic.{⊎-elim}
 use Prim.Native.Nat.{_-_}
 use Rattle.words.specs.Word.{subset, subsetTable}
-use Rattle.words.specs.FillLaws.{FilledTo, filled-start, filled-ask, filled-next, filled-skip, filled-end}
+use Rattle.words.proofs.FillLaws.{FilledTo, filled-start, filled-ask, filled-next, filled-skip, filled-end}
 use borrow.Author.Needs.{needs}
 use Rattle.words.proofs.fill_words.Statement.{statement}
 use Rattle.words.proofs.fill_words.Tie as tie

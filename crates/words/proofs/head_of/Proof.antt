@@ -1,5 +1,5 @@
 -- `words::head_of` meets its contract. Assumes nothing.
-use Rattle.words.specs.CodeLaws.{head-inside, head-outside}
+use Rattle.words.proofs.CodeLaws.{head-inside, head-outside}
 use borrow.Author.Needs.{needs}
 use Rattle.words.proofs.head_of.Statement.{statement}
 use Rattle.words.proofs.head_of.Tie as tie

@@ -5,8 +5,8 @@ use native.Mathlib.Omega.{arith}
 use lib.ListN.{length-take, length-drop}
 use borrow.Author.Needs.{needs}
 use Rattle.written.specs.Published.{maskAt, published}
-use Rattle.written.specs.MaskLaws.{published-whole}
-use Rattle.written.specs.RowLaws.{Rows, rows-start, rows-next, rows-end, row-room}
+use Rattle.written.proofs.MaskLaws.{published-whole}
+use Rattle.written.proofs.RowLaws.{Rows, rows-start, rows-next, rows-end, row-room}
 use Rattle.written.proofs.write_candidates.Statement.{statement}
 use Rattle.written.proofs.write_candidates.Tie as tie
 

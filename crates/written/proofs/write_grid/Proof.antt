@@ -5,13 +5,13 @@ use native.Mathlib.Omega.{arith}
 use lib.ListN.{length-take, length-drop}
 use borrow.Author.Needs.{needs}
 use Rattle.table.specs.Reading.{readOff}
-use Rattle.written.specs.Published.{cellAt}
-use Rattle.written.specs.RowLaws.{Rows, rows-start, rows-next, rows-end, row-room}
+use Rattle.written.specs.Published.{cellByte}
+use Rattle.written.proofs.RowLaws.{Rows, rows-start, rows-next, rows-end, row-room}
 use Rattle.written.proofs.write_grid.Statement.{statement}
 use Rattle.written.proofs.write_grid.Tie as tie
 
 abbrev Inv-loop : tie.InvT-loop
-Inv-loop st n cells₀ r₀ cells r = (r ≤ n) × Rows n (cellAt n st) cells₀ cells r
+Inv-loop st n cells₀ r₀ cells r = (r ≤ n) × Rows n (cellByte n st) cells₀ cells r
 
 abbrev μ-loop : tie.MeasureT-loop
 μ-loop st n cells₀ r₀ cells r = n - r

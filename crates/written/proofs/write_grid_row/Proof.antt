@@ -1,14 +1,14 @@
 -- `written::write_grid_row` meets its contract: the first c cells are written. Assumes nothing.
 use Prim.Native.Nat.{_-_, _≤_}
 use native.Mathlib.Omega.{arith}
-use Rattle.written.specs.Published.{cellAt}
-use Rattle.written.specs.RowLaws.{Filled, filled-start, filled-next, filled-end}
+use Rattle.written.specs.Published.{cellByte}
+use Rattle.written.proofs.RowLaws.{RowFilled, filled-start, filled-next, filled-end}
 use borrow.Author.Needs.{needs}
 use Rattle.written.proofs.write_grid_row.Statement.{statement}
 use Rattle.written.proofs.write_grid_row.Tie as tie
 
 abbrev Inv-loop : tie.InvT-loop
-Inv-loop st n r row₀ c₀ row c = (c ≤ n) × Filled (cellAt n st r) row₀ row c
+Inv-loop st n r row₀ c₀ row c = (c ≤ n) × RowFilled (cellByte n st r) row₀ row c
 
 abbrev μ-loop : tie.MeasureT-loop
 μ-loop st n r row₀ c₀ row c = n - c

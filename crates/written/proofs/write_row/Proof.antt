@@ -2,13 +2,13 @@
 use Prim.Native.Nat.{_-_, _≤_}
 use native.Mathlib.Omega.{arith}
 use Rattle.written.specs.Published.{maskAt}
-use Rattle.written.specs.RowLaws.{Filled, filled-start, filled-next, filled-end}
+use Rattle.written.proofs.RowLaws.{RowFilled, filled-start, filled-next, filled-end}
 use borrow.Author.Needs.{needs}
 use Rattle.written.proofs.write_row.Statement.{statement}
 use Rattle.written.proofs.write_row.Tie as tie
 
 abbrev Inv-loop : tie.InvT-loop
-Inv-loop st n r row₀ c₀ row c = (c ≤ n) × Filled (maskAt n st r) row₀ row c
+Inv-loop st n r row₀ c₀ row c = (c ≤ n) × RowFilled (maskAt n st r) row₀ row c
 
 abbrev μ-loop : tie.MeasureT-loop
 μ-loop st n r row₀ c₀ row c = n - c

@@ -1,6 +1,6 @@
 -- `replay_records::calls::buffer` meets its contract. Assumes nothing.
 use borrow.Author.Needs.{needs}
-use Rattle.replay_records.specs.FieldLaws.{copied}
+use Rattle.replay_records.proofs.FieldLaws.{copied}
 use Rattle.replay_records.proofs.calls.buffer.Statement.{statement}
 use Rattle.replay_records.proofs.calls.buffer.Tie as tie
 

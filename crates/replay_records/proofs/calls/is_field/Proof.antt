@@ -1,6 +1,6 @@
 -- `replay_records::calls::is_field` meets its contract. Assumes nothing.
 use borrow.Author.Needs.{needs}
-use Rattle.replay_records.specs.AgreementLaws.{says-field}
+use Rattle.replay_records.proofs.AgreementLaws.{says-field}
 use Rattle.replay_records.proofs.calls.is_field.Statement.{statement}
 use Rattle.replay_records.proofs.calls.is_field.Tie as tie
 

@@ -1,6 +1,6 @@
 -- `replay_records::calls::mark_sheet_agrees` meets its contract: what marking gives is compared with the recorded number. Assumes nothing.
 use borrow.Author.Needs.{needs}
-use Rattle.replay_records.specs.AgreementLaws.{sheet-called}
+use Rattle.replay_records.proofs.AgreementLaws.{sheet-called}
 use Rattle.replay_records.proofs.calls.mark_sheet_agrees.Statement.{statement}
 use Rattle.replay_records.proofs.calls.mark_sheet_agrees.Tie as tie
 

@@ -1,6 +1,6 @@
 -- `replay_records::calls::sums_agree` meets its contract: what the call gives is what the definition gives. Assumes nothing.
 use borrow.Author.Needs.{needs}
-use Rattle.replay_records.specs.AgreementLaws.{sums-called}
+use Rattle.replay_records.proofs.AgreementLaws.{sums-called}
 use Rattle.replay_records.proofs.calls.sums_agree.Statement.{statement}
 use Rattle.replay_records.proofs.calls.sums_agree.Tie as tie
 

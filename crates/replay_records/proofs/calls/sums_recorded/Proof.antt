@@ -1,6 +1,6 @@
 -- `replay_records::calls::sums_recorded` meets its contract: the answer, the rows and the columns are compared in turn. Assumes nothing.
 use borrow.Author.Needs.{needs}
-use Rattle.replay_records.specs.AgreementLaws.{answer-differs, rows-differ, columns-decide}
+use Rattle.replay_records.proofs.AgreementLaws.{answer-differs, rows-differ, columns-decide}
 use Rattle.replay_records.proofs.calls.sums_recorded.Statement.{statement}
 use Rattle.replay_records.proofs.calls.sums_recorded.Tie as tie
 

@@ -2,7 +2,7 @@
 use mathlib.Core.Path.{sym, ap}
 use lib.ListN.{length}
 use borrow.Author.Needs.{needs}
-use Rattle.replay_records.specs.AgreementLaws.{rows-long, columns-long, sums-replayed}
+use Rattle.replay_records.proofs.AgreementLaws.{rows-long, columns-long, sums-replayed}
 use Rattle.replay_records.proofs.calls.target_sums_agree.Statement.{statement}
 use Rattle.replay_records.proofs.calls.target_sums_agree.Tie as tie
 

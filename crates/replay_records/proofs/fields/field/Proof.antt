@@ -1,6 +1,6 @@
 -- `replay_records::fields::field` meets its contract. Assumes nothing.
 use borrow.Author.Needs.{needs}
-use Rattle.replay_records.specs.FieldLaws.{field-order, field-short, field-whole}
+use Rattle.replay_records.proofs.FieldLaws.{field-order, field-short, field-whole}
 use Rattle.replay_records.proofs.fields.field.Statement.{statement}
 use Rattle.replay_records.proofs.fields.field.Tie as tie
 

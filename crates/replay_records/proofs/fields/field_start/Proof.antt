@@ -4,7 +4,7 @@ use mathlib.Core.Path.{_≡_, refl}
 use native.Mathlib.Omega.{arith}
 use borrow.Author.Needs.{needs}
 use Rattle.replay_records.specs.Fields.{fieldStart}
-use Rattle.replay_records.specs.FieldLaws.{start-next}
+use Rattle.replay_records.proofs.FieldLaws.{start-next}
 use Rattle.replay_records.proofs.fields.field_start.Statement.{statement}
 use Rattle.replay_records.proofs.fields.field_start.Tie as tie
 

@@ -1,6 +1,6 @@
 -- `replay_records::fields::is_readable` meets its contract. Assumes nothing.
 use borrow.Author.Needs.{needs}
-use Rattle.replay_records.specs.FieldLaws.{unreadable-tag, unreadable-end, readable-whole}
+use Rattle.replay_records.proofs.FieldLaws.{unreadable-tag, unreadable-end, readable-whole}
 use Rattle.replay_records.proofs.fields.is_readable.Statement.{statement}
 use Rattle.replay_records.proofs.fields.is_readable.Tie as tie
 

@@ -5,7 +5,7 @@ use native.Mathlib.Omega.{arith}
 use lib.ListN.{length, drop}
 use borrow.Author.Needs.{needs}
 use Rattle.replay_records.specs.Fields.{numberFrom}
-use Rattle.replay_records.specs.FieldLaws.{number-next, number-end, number-more, number-fits}
+use Rattle.replay_records.proofs.FieldLaws.{number-next, number-end, number-more, number-fits}
 use Rattle.replay_records.proofs.fields.number.Statement.{statement}
 use Rattle.replay_records.proofs.fields.number.Tie as tie
 

@@ -1,6 +1,6 @@
 -- `replay_records::solver_calls::buffer_recorded` meets its contract: the answer and the buffer are compared in turn. Assumes nothing.
 use borrow.Author.Needs.{needs}
-use Rattle.replay_records.specs.SolverAgreementLaws.{buffer-answer-differs, buffer-decides}
+use Rattle.replay_records.proofs.SolverAgreementLaws.{buffer-answer-differs, buffer-decides}
 use Rattle.replay_records.proofs.solver_calls.buffer_recorded.Statement.{statement}
 use Rattle.replay_records.proofs.solver_calls.buffer_recorded.Tie as tie
 

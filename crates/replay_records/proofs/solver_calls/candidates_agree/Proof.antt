@@ -2,7 +2,7 @@
 use mathlib.Core.Path.{sym, ap}
 use lib.ListN.{length}
 use borrow.Author.Needs.{needs}
-use Rattle.replay_records.specs.SolverAgreementLaws.{table-long, table-replayed}
+use Rattle.replay_records.proofs.SolverAgreementLaws.{table-long, table-replayed}
 use Rattle.replay_records.proofs.solver_calls.candidates_agree.Statement.{statement}
 use Rattle.replay_records.proofs.solver_calls.candidates_agree.Tie as tie
 

@@ -1,6 +1,6 @@
 -- `replay_records::solver_calls::capped_agrees` meets its contract: what the call gives is what the definition gives. Assumes nothing.
 use borrow.Author.Needs.{needs}
-use Rattle.replay_records.specs.SolverAgreementLaws.{count-called}
+use Rattle.replay_records.proofs.SolverAgreementLaws.{count-called}
 use Rattle.replay_records.proofs.solver_calls.capped_agrees.Statement.{statement}
 use Rattle.replay_records.proofs.solver_calls.capped_agrees.Tie as tie
 

@@ -1,6 +1,6 @@
 -- `replay_records::solver_calls::cells_agree` meets its contract: what the call gives keeps its promise. Assumes nothing.
 use borrow.Author.Needs.{needs}
-use Rattle.replay_records.specs.SolverAgreementLaws.{cells-called}
+use Rattle.replay_records.proofs.SolverAgreementLaws.{cells-called}
 use Rattle.replay_records.proofs.solver_calls.cells_agree.Statement.{statement}
 use Rattle.replay_records.proofs.solver_calls.cells_agree.Tie as tie
 

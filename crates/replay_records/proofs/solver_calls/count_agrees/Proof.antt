@@ -1,6 +1,6 @@
 -- `replay_records::solver_calls::count_agrees` meets its contract: the cap and the count before are the record's. Assumes nothing.
 use borrow.Author.Needs.{needs}
-use Rattle.replay_records.specs.SolverAgreementLaws.{cap-short, old-short, count-replayed}
+use Rattle.replay_records.proofs.SolverAgreementLaws.{cap-short, old-short, count-replayed}
 use Rattle.replay_records.proofs.solver_calls.count_agrees.Statement.{statement}
 use Rattle.replay_records.proofs.solver_calls.count_agrees.Tie as tie
 

@@ -1,6 +1,6 @@
 -- `replay_records::solver_calls::count_recorded` meets its contract: the answer and the count are compared in turn. Assumes nothing.
 use borrow.Author.Needs.{needs}
-use Rattle.replay_records.specs.SolverAgreementLaws.{count-answer-differs, count-decides}
+use Rattle.replay_records.proofs.SolverAgreementLaws.{count-answer-differs, count-decides}
 use Rattle.replay_records.proofs.solver_calls.count_recorded.Statement.{statement}
 use Rattle.replay_records.proofs.solver_calls.count_recorded.Tie as tie
 

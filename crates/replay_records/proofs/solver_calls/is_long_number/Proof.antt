@@ -1,6 +1,6 @@
 -- `replay_records::solver_calls::is_long_number` meets its contract. Assumes nothing.
 use borrow.Author.Needs.{needs}
-use Rattle.replay_records.specs.SolverAgreementLaws.{long-number-short, long-number-decides}
+use Rattle.replay_records.proofs.SolverAgreementLaws.{long-number-short, long-number-decides}
 use Rattle.replay_records.proofs.solver_calls.is_long_number.Statement.{statement}
 use Rattle.replay_records.proofs.solver_calls.is_long_number.Tie as tie
 

@@ -2,7 +2,7 @@
 use mathlib.Core.Path.{sym, ap}
 use lib.ListN.{length}
 use borrow.Author.Needs.{needs}
-use Rattle.replay_records.specs.SolverAgreementLaws.{cells-long, cells-replayed}
+use Rattle.replay_records.proofs.SolverAgreementLaws.{cells-long, cells-replayed}
 use Rattle.replay_records.proofs.solver_calls.solve_agrees.Statement.{statement}
 use Rattle.replay_records.proofs.solver_calls.solve_agrees.Tie as tie
 

@@ -1,6 +1,6 @@
 -- `replay_records::solver_calls::table_agrees` meets its contract: what the call gives keeps its promise. Assumes nothing.
 use borrow.Author.Needs.{needs}
-use Rattle.replay_records.specs.SolverAgreementLaws.{table-called}
+use Rattle.replay_records.proofs.SolverAgreementLaws.{table-called}
 use Rattle.replay_records.proofs.solver_calls.table_agrees.Statement.{statement}
 use Rattle.replay_records.proofs.solver_calls.table_agrees.Tie as tie
 

@@ -1,7 +1,7 @@
 -- `sheet_stream::Stream::end` meets its contract. Assumes nothing.
 use native.Mathlib.Omega.{arith}
-use Rattle.text_line.specs.PuzzleTextLaws.{front-long}
-use Rattle.text_stream.specs.CarryLaws.{last-none, last-line}
+use Rattle.text_line.proofs.PuzzleTextLaws.{front-long}
+use Rattle.text_stream.proofs.CarryLaws.{last-none, last-line}
 use borrow.Author.Needs.{needs}
 use Rattle.text_stream.proofs.Stream.end.Statement.{statement}
 use Rattle.text_stream.proofs.Stream.end.Tie as tie

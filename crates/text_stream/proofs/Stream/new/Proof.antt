@@ -1,6 +1,6 @@
 -- `sheet_stream::Stream::new` meets its contract. Assumes nothing.
 use mathlib.Core.Path.{refl}
-use Rattle.text_stream.specs.CarryLaws.{stream-new}
+use Rattle.text_stream.proofs.CarryLaws.{stream-new}
 use Rattle.text_stream.proofs.Stream.new.Statement.{statement}
 use Rattle.text_stream.proofs.Stream.new.Tie as tie
 

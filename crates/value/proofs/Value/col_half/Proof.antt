@@ -1,6 +1,6 @@
 -- `value::Value::col_half` meets its contract. Assumes nothing.
 use native.Mathlib.Omega.{arith}
-use Rattle.value.specs.MaskLaws.{digits-most, column-mask}
+use Rattle.value.proofs.MaskLaws.{digits-most, column-mask}
 use borrow.Author.Needs.{needs}
 use Rattle.value.proofs.Value.col_half.Statement.{statement}
 use Rattle.value.proofs.Value.col_half.Tie as tie

@@ -1,6 +1,6 @@
 -- `value::Value::full_cell` meets its contract. Assumes nothing.
 use native.Mathlib.Omega.{arith}
-use Rattle.value.specs.MaskLaws.{row-most, every-mask}
+use Rattle.value.proofs.MaskLaws.{row-most, every-mask}
 use borrow.Author.Needs.{needs}
 use Rattle.value.proofs.Value.full_cell.Statement.{statement}
 use Rattle.value.proofs.Value.full_cell.Tie as tie

@@ -1,6 +1,6 @@
 -- `value::Value::row_half` meets its contract. Assumes nothing.
 use native.Mathlib.Omega.{arith}
-use Rattle.value.specs.MaskLaws.{digits-most, row-mask}
+use Rattle.value.proofs.MaskLaws.{digits-most, row-mask}
 use borrow.Author.Needs.{needs}
 use Rattle.value.proofs.Value.row_half.Statement.{statement}
 use Rattle.value.proofs.Value.row_half.Tie as tie

@@ -1,0 +1,14 @@
+-- What the proofs of several functions use.
+pub mod Arranged
+pub mod Dead
+mod Followed
+pub mod Found
+pub mod GridLines
+pub mod Half
+pub mod Lists
+pub mod Own
+pub mod Parts
+pub mod Pigeonhole
+pub mod SettledLine
+mod Subsets
+pub mod Values

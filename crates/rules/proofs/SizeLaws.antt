@@ -1,0 +1,22 @@
+-- Sizes that pass the check. Assumes nothing.
+use Prim.Native.Nat.{ℕ}
+use mathlib.Core.Path.{_≡_}
+use mathlib.Core.Bool.{Bool, true}
+use native.Mathlib.Nat.{mul-le-mul}
+use native.Mathlib.Omega.{arith}
+use lib.Dec.{leb}
+use borrow.Author.Tests.{leb-true}
+use Rattle.tally.specs.Tally.{span, all}
+use Rattle.tally.proofs.TallyLaws.{and-left, and-right, span-mem}
+use Rattle.tally.proofs.WayLaws.{all-each}
+use Rattle.rules.specs.Check.{sizeFits}
+use Rattle.rules.specs.Size.{Size}
+
+pub size-in : (n : ℕ) → sizeFits n ≡ true → Size n
+size-in n h =
+    let u = leb-true n 9 (and-right (leb 2 n) (leb n 9) h) in
+    record { low = leb-true 2 n (and-left (leb 2 n) (leb n 9) h); high = u; square = mul-le-mul u u }
+
+-- a rule of the size that is computed at each of the eight
+pub at-size : (q : ℕ → Bool) → all q (span 2 8) ≡ true → (n : ℕ) → Size n → q n ≡ true
+at-size q t n s = all-each q (span-mem 2 8 n (s .low) (omega (arith, s .high))) t

@@ -1,0 +1,5 @@
+-- What the proofs of several functions use.
+pub mod MaskBits
+mod RunLaws
+pub mod SetLaws
+pub mod SettingLaws

@@ -1,0 +1,7 @@
+-- What the proofs of several functions use.
+pub mod CellValues
+pub mod Deductions
+pub mod MarkLaws
+pub mod Measures
+pub mod SameLaws
+pub mod Taken

@@ -1,0 +1,16 @@
+-- The places of a line as cells of the grid. Assumes nothing.
+use Prim.Native.Nat.{ℕ, _+_, _*_}
+use Rattle.rules.specs.Grid.{Line, across, down}
+
+unfoldable pub rowOf : Line → ℕ → ℕ
+rowOf (across r) i = r
+rowOf (down c) i = i
+
+unfoldable pub columnOf : Line → ℕ → ℕ
+columnOf (across r) i = i
+columnOf (down c) i = c
+
+-- Place i of a line as a place of the state.
+abbrev pub cellOf : Line → ℕ → ℕ
+cellOf (across r) i = r * 9 + i
+cellOf (down c) i = i * 9 + c

@@ -1,0 +1,8 @@
+-- What the proofs of several functions use.
+pub mod Arranged
+pub mod CodeLaws
+pub mod FillLaws
+pub mod PatternLaws
+pub mod StepLaws
+pub mod WordFacts
+pub mod WordLaws
