@@ -93,6 +93,10 @@ pub record SampleFacts : Type 0 where
   pub line-sums : map lineSum ((255 ∷ 2 ∷ 1 ∷ 255 ∷ []) ∷ (1 ∷ 255 ∷ 255 ∷ 2 ∷ []) ∷ (1 ∷ 255 ∷ 2 ∷ 255 ∷ []) ∷ []) ≡ 3 ∷ 0 ∷ 2 ∷ []
   -- A grid of size 4 that keeps its sums, and one whose sums are right but which repeats digits.
   pub size-4-grid : keeps (record { size = 4; rows = ring; columns = ring }) (255 ∷ 1 ∷ 2 ∷ 255 ∷ 1 ∷ 255 ∷ 255 ∷ 2 ∷ 2 ∷ 255 ∷ 255 ∷ 1 ∷ 255 ∷ 2 ∷ 1 ∷ 255 ∷ []) ≡ true
+  -- The example that docs/RULES.md draws.
+  pub drawn :
+      keeps (record { size = 5; rows = 3 ∷ 4 ∷ 1 ∷ 3 ∷ 3 ∷ []; columns = 0 ∷ 6 ∷ 0 ∷ 5 ∷ 5 ∷ [] })
+      (3 ∷ 255 ∷ 2 ∷ 1 ∷ 255 ∷ 255 ∷ 3 ∷ 1 ∷ 255 ∷ 2 ∷ 255 ∷ 1 ∷ 255 ∷ 2 ∷ 3 ∷ 1 ∷ 2 ∷ 255 ∷ 3 ∷ 255 ∷ 2 ∷ 255 ∷ 3 ∷ 255 ∷ 1 ∷ []) ≡ true
   pub size-4-repeats : keeps (record { size = 4; rows = 2 ∷ 0 ∷ 0 ∷ 2 ∷ []; columns = 4 ∷ 0 ∷ 0 ∷ 4 ∷ [] }) repeating ≡ false
   -- Hex 08c0: take row 1, column 1, value 8. At size 3 the value 1 is taken, 2 is not. At size 9 the target 28 is taken, 29 is not.
   pub mark-fields : (rejects 0x08c0 ≡ false) × (markRow 0x08c0 ≡ 1) × (markColumn 0x08c0 ≡ 1) × (markValue 0x08c0 ≡ 8) × (markSpare 0x08c0 ≡ 0) × (rejects 0x88c0 ≡ true)
@@ -153,6 +157,7 @@ facts =
       lawful-lines = refl;
       line-sums = refl;
       size-4-grid = refl;
+      drawn = refl;
       size-4-repeats = refl;
       mark-fields = (refl, refl, refl, refl, refl, refl);
       mark-named = refl;

@@ -1,4 +1,6 @@
 -- The checks that a call makes of its input, and the number that it refuses by. Assumes nothing.
+-- The numbers: 1 size, 2 lengths of the target slices, 3 targets; of a mark 4 spare bits, 5 cell, 6 value; 7 length of the buffer; of a line 8 blacks,
+-- 9 numbers between them, 10 sum; 11 the line of a text (crates/text_rules). 12 to 21 are kept for what docs/INTERFACE.md says; answers begin at 100.
 use Prim.Native.Nat.{ℕ, zero, suc, _-_, _*_, _/_}
 use mathlib.Core.Bool.{Bool, not, _&&_, _||_, cond}
 use mathlib.Core.List.{List, [], _∷_, _++_, map}
