@@ -7,7 +7,8 @@ use native.Mathlib.Omega.{arith}
 use lib.ListN.{length, drop}
 use Rattle.tally.specs.Tally.{join}
 use Rattle.rules.specs.Mark.{rejects, markRow, markColumn, markValue, marksOf}
-use Rattle.rules.specs.Check.{refusal, checkMark, markChecks}
+use Rattle.rules.specs.Check.{refusal, checkMark}
+use Rattle.rules.specs.CheckParts.{markChecks}
 use Rattle.rules.proofs.CheckLaws.{refusal-none-right}
 use Rattle.table.specs.Table.{Table}
 use Rattle.table.specs.Steps.{struck, taken, marked, markedAll}

@@ -5,7 +5,8 @@ use mathlib.Core.List.{List}
 use lib.ListN.{length}
 use Rattle.rules.specs.Grid.{Puzzle}
 use Rattle.rules.specs.Mark.{marksOf}
-use Rattle.rules.specs.Check.{refusal, markChecks}
+use Rattle.rules.specs.Check.{refusal}
+use Rattle.rules.specs.CheckParts.{markChecks}
 use Rattle.table.specs.Steps.{markedAll}
 use Rattle.soundness.specs.Marks.{AcceptedMark}
 use Rattle.slab.specs.Slab.{tableIn}

@@ -1,5 +1,5 @@
 -- What a table owes a puzzle and marks, at sample sheets: tables that keep it, and for each field one that does not. Assumes nothing.
-use Prim.Native.Nat.{ℕ}
+use Prim.Native.Nat.{ℕ, _≤_}
 use mathlib.Core.Path.{_≡_, refl}
 use mathlib.Core.Bool.{Bool, true, false, not, _&&_, cond, true≢false, false≢true}
 use mathlib.Core.List.{List, [], _∷_, List·Memᴰ, List·Memᴰ·head, List·Memᴰ·tail}
@@ -9,10 +9,12 @@ use borrow.Author.Tests.{not-true}
 use Rattle.tally.specs.Tally.{span, sum, all, any, count, inFront, ways}
 use Rattle.tally.proofs.TallyLaws.{and-left, and-right}
 use Rattle.tally.proofs.WayLaws.{all-each, all-ways, way-map}
-use Rattle.rules.specs.Grid.{digits, lawful, untilBlack, inside, lineSum, meets, keepsLine, cell, row, column, line, lines, Puzzle, target, keeps}
+use Rattle.rules.specs.Grid.{digits, lawful, untilBlack, inside, lineSum, meets, keepsLine, cell, row, column, line, lines, Puzzle, target, keeps, across}
 use Rattle.rules.specs.Mark.{rejects, markRow, markColumn, markValue, leftBlack, blackWith, has, keepsMark, keepsMarks}
 use Rattle.rules.specs.Number.{symbols, grids, solves}
 use Rattle.rules.proofs.Samples.{three}
+use Rattle.soundness.proofs.CellValues.{half-every}
+use Rattle.soundness.proofs.Taken.{same-half}
 use Rattle.table.specs.Table.{Table, places, firstBlack, half, everyValue, own, fits, bitOf, hasBit, tableOf, sameHalf}
 use Rattle.table.specs.Closed.{Closed}
 use Rattle.table.proofs.Decides.{Decides, implies, is, equal, if-then, each, each-below}
@@ -45,9 +47,9 @@ unfolding aloneTest
 alone n t r c v = each (λ w. if-then (is (sameHalf v w)) (if-then (is (t r c w)) (equal w v))) (everyValue n)
 
 -- a table that passes the tests and is closed owes nothing more
-remains : (p : Puzzle) (ms : List ℕ) (t : Table) → gridsTest p ms t ≡ true → filledTest (p .size) t ≡ true → Closed p t → all (markTest (p .size) t) ms ≡ true → Remaining p ms t
+remains : (p : Puzzle) (ms : List ℕ) (t : Table) → p .size ≤ 9 → gridsTest p ms t ≡ true → filledTest (p .size) t ≡ true → Closed p t → all (markTest (p .size) t) ms ≡ true → Remaining p ms t
 unfolding gridsTest filledTest markTest grids
-remains p ms t fit filled closed marks =
+remains p ms t small fit filled closed marks =
     let n = p .size in
     record {
       grids = λ g s. if-then (is (solves p ms g)) (is (fits n t g)) .holds (all-ways (symbols n) (λ g. implies (solves p ms g) (fits n t g)) (s .filled) fit) (s .right);
@@ -55,8 +57,9 @@ remains p ms t fit filled closed marks =
       closed = closed;
       rejected = λ m k e. not-true _ (rw e at (all-each (markTest n t) k marks));
       taken = λ m k e. and-left _ _ (rw e at (all-each (markTest n t) k marks));
-      alone = λ m w k e q ne h. false-of _ (λ there. ne (alone n t (markRow m) (markColumn m) (markValue m) .holds
-          (and-right (t (markRow m) (markColumn m) (markValue m)) _ (rw e at (all-each (markTest n t) k marks))) w q h there));
+      alone = λ m w ℓ k e q h ne. false-of _ (λ there. ne (alone n t (markRow m) (markColumn m) (markValue m) .holds
+          (and-right (t (markRow m) (markColumn m) (markValue m)) _ (rw e at (all-each (markTest n t) k marks))) w (half-every n ℓ w h)
+          (same-half n small ℓ (markValue m) w q h) there));
     }
 
 -- ##1/#1#/1##
@@ -91,10 +94,10 @@ unfolding
     gridsTest filledTest aloneTest markTest
 facts =
     record {
-      settled-remains = remains (three 1 0 0 1 0 0) [] settled refl refl (small.facts .settled-closed) refl;
-      both-remain = remains (three 0 1 0 0 1 0) [] bothGrids refl refl (small.facts .both-closed) refl;
-      taken-remains = remains (three 0 1 0 0 1 0) (0x0008 ∷ []) falling refl refl (small.facts .falling-closed) refl;
-      rejected-remains = remains (three 0 1 0 0 1 0) (0x8008 ∷ []) rising refl refl (small.facts .rising-closed) refl;
+      settled-remains = remains (three 1 0 0 1 0 0) [] settled (omega arith) refl refl (small.facts .settled-closed) refl;
+      both-remain = remains (three 0 1 0 0 1 0) [] bothGrids (omega arith) refl refl (small.facts .both-closed) refl;
+      taken-remains = remains (three 0 1 0 0 1 0) (0x0008 ∷ []) falling (omega arith) refl refl (small.facts .falling-closed) refl;
+      rejected-remains = remains (three 0 1 0 0 1 0) (0x8008 ∷ []) rising (omega arith) refl refl (small.facts .rising-closed) refl;
       full-not = λ r. small.facts .full-not .refused (r .closed);
       empty-not = λ r. false≢true (r .filled 0 0 (omega arith) (omega arith));
       lost-not = λ r. false≢true
@@ -102,5 +105,5 @@ facts =
           (record { filled = way-map (λ x. x) other (λ c m. any-in c (symbols 3) (all-each (λ c. any (eqb c) (symbols 3)) m refl)); right = refl }));
       rejected-not = λ r. true≢false (r .rejected 0x8008 (List·Memᴰ·head refl) refl);
       taken-not = λ r. false≢true (r .taken 0x0008 (List·Memᴰ·head refl) refl);
-      alone-not = λ r. true≢false (r .alone 0x0008 leftBlack (List·Memᴰ·head refl) refl (List·Memᴰ·tail (List·Memᴰ·head refl)) (omega arith) refl);
+      alone-not = λ r. true≢false (r .alone 0x0008 leftBlack (across 0) (List·Memᴰ·head refl) refl (List·Memᴰ·head refl) (List·Memᴰ·tail (List·Memᴰ·head refl)) (omega arith));
     }

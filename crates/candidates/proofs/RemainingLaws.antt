@@ -30,6 +30,8 @@ use Rattle.soundness.proofs.CellValues.{CellValue, digit-value, row-black, colu
 use Rattle.table.specs.Value.{IsValue}
 use Rattle.soundness.proofs.SameLaws.{same-left, same-ext, same-trans}
 use Rattle.soundness.specs.SameGrids.{SameGrids}
+use Rattle.soundness.proofs.CellValues.{half-every}
+use Rattle.soundness.proofs.Taken.{same-half}
 use Rattle.soundness.proofs.MarkLaws.{marks-fits, rejected-gone, taken-alone}
 use Rattle.soundness.specs.Marks.{AcceptedMark}
 use Rattle.soundness.proofs.MarkLaws as marks
@@ -194,7 +196,7 @@ module _ {p : Puzzle} {ms : List ℕ} {len : ℕ} (a : SolveAsk p ms len) where
             taken = λ x k e. let i = mark-in x k in
                 alone-there p t small closed (markRow x) (markColumn x) (i .row-in) (i .column-in) (markValue x) (i .value-in)
                 (some (markRow x) (markColumn x) (i .row-in) (i .column-in)) (λ v q ne h. others-gone x v k e q ne h);
-            alone = λ x v k e q ne h. others-gone x v k e q ne h;
+            alone = λ x v ℓ k e q h ne. others-gone x v k e (half-every (p .size) ℓ v h) ne (same-half (p .size) small ℓ (markValue x) v q h);
           }
 
       pub written-table : length table ≡ len → WrittenTable p ms table

@@ -6,11 +6,11 @@ use mathlib.Core.List.{List·Memᴰ}
 use Rattle.rules.specs.Grid.{digits, Line, across, down, index, Puzzle, target}
 use Rattle.rules.specs.Mark.{leftBlack, rightBlack, upperBlack, lowerBlack}
 use Rattle.table.specs.Closed.{Arrangement, Closed, ClosedLine, Supported, Live, place}
-use Rattle.table.specs.Table.{Table, Places, places, firstBlack, half}
+use Rattle.table.specs.Table.{Table, places, firstBlack, half}
+use Rattle.table.specs.Lines.{Places, rowOf, columnOf}
 use Rattle.line_laws.proofs.Half.{digit-in, first-in, second-in}
 use Rattle.line_laws.proofs.Arranged.{IsArrangement, arranged, allows-half, step-lt}
 use Rattle.line_laws.proofs.GridLines.{place-in, places-cell}
-use Rattle.table.specs.Place.{rowOf, columnOf}
 use Rattle.soundness.proofs.CellValues.{half-every}
 use Rattle.table.specs.Value.{IsValue}
 

@@ -7,11 +7,11 @@ use mathlib.Core.Logic.{_≢_, _⊎_}
 use mathlib.Core.List.{List, List·Memᴰ}
 use lib.ListN.{length}
 use Rattle.tally.specs.Tally.{any}
-use Rattle.rules.specs.Grid.{Puzzle, cell}
+use Rattle.rules.specs.Grid.{Line, Puzzle, cell}
 use Rattle.rules.specs.Mark.{rejects, markRow, markColumn, markValue}
 use Rattle.rules.specs.Check.{refusal, solveChecks}
 use Rattle.rules.specs.Number.{number, Solution}
-use Rattle.table.specs.Table.{Table, everyValue, fits, bitOf, hasBit, tableOf, sameHalf}
+use Rattle.table.specs.Table.{Table, firstBlack, half, everyValue, fits, bitOf, hasBit, tableOf}
 use Rattle.table.specs.Closed.{Closed}
 use Rattle.candidates.specs.declared.Outcome.{Outcome}
 use Rattle.candidates.specs.declared.Outcome.the-variants.{Refused, Contradicted, Written}
@@ -26,10 +26,10 @@ pub record Remaining (p : Puzzle) (ms : List ℕ) (t : Table) : Type 0 where
   pub closed : Closed p t
   -- a rejected candidate is gone
   pub rejected : (m : ℕ) → List·Memᴰ m ms → rejects m ≡ true → t (markRow m) (markColumn m) (markValue m) ≡ false
-  -- a taken one is there, alone in its half: a digit alone in its cell
+  -- a taken one is there, alone in the half of each line that has it: a digit alone in its cell
   pub taken : (m : ℕ) → List·Memᴰ m ms → rejects m ≡ false → t (markRow m) (markColumn m) (markValue m) ≡ true
-  pub alone : (m w : ℕ) → List·Memᴰ m ms → rejects m ≡ false → List·Memᴰ w (everyValue (p .size)) → w ≢ markValue m → sameHalf (markValue m) w ≡ true →
-      t (markRow m) (markColumn m) w ≡ false
+  pub alone : (m w : ℕ) (ℓ : Line) → List·Memᴰ m ms → rejects m ≡ false → List·Memᴰ (markValue m) (half (p .size) (firstBlack ℓ)) →
+      List·Memᴰ w (half (p .size) (firstBlack ℓ)) → w ≢ markValue m → t (markRow m) (markColumn m) w ≡ false
 
 -- The masks of such a table, row by row, with no bit that is not a value's.
 pub record WrittenTable (p : Puzzle) (ms masks : List ℕ) : Type 0 where

@@ -8,7 +8,8 @@ use borrow.Author.Tests.{eqb-true, eq-eqb}
 use Rattle.tally.specs.Tally.{all, join}
 use Rattle.tally.proofs.TallyLaws.{and-left, and-right, and-both, all-less, all-perm}
 use Rattle.rules.specs.Grid.{Puzzle}
-use Rattle.rules.specs.Check.{refusal, checkMark, markChecks, puzzleChecks, countChecks, checkBuffer, solveChecks}
+use Rattle.rules.specs.Check.{refusal, checkMark, puzzleChecks, countChecks, checkBuffer, solveChecks}
+use Rattle.rules.specs.CheckParts.{markChecks}
 use Rattle.rules.proofs.CheckLaws.{refusal-skip, refusal-none-left, refusal-none-right, numbered-append}
 use Rattle.puzzle.proofs.PuzzleLaws.{puzzle-numbered}
 use Rattle.mark_list.proofs.MarkLaws.{mark-numbered}

@@ -24,7 +24,7 @@ use Rattle.counters.specs.Counters.{IsSet, AllSet, NoBlacks, InGrid, hal
 use Rattle.counters.proofs.CounterLaws.{ruled-rest}
 use Rattle.counters.proofs.Families.{value-narrow, value-once, value-in, HalfPlace, half-place, fine-halves, fine-places, fine-blacks}
 use Rattle.counters.proofs.Lines.{in-grid, grid-place, place-yes, yes-place, no-place, digit-in-line, half-in, in-half, cell-hit, line-hit, counter-value, counter-used, counter-cell}
-use Rattle.table.specs.Place.{cellOf}
+use Rattle.table.specs.Lines.{cellOf}
 
 -- No strike waits for these counters.
 pub record AtRest (n : ℕ) (l : List ℕ) : Type 0 where

@@ -13,7 +13,7 @@ use Rattle.rules.specs.Grid.{digits, Line, across, down, index}
 use Rattle.table.specs.Table.{places, firstBlack, half}
 use Rattle.line_laws.proofs.Lists.{or-split}
 use Rattle.line_laws.proofs.Half.{HalfValue, a-digit, a-first, a-second, half-value, digit-in, first-in, second-in}
-use Rattle.table.specs.Place.{rowOf, columnOf, cellOf}
+use Rattle.table.specs.Lines.{rowOf, columnOf, cellOf}
 use Rattle.slab.specs.Slab.{cand, tableIn}
 use Rattle.table.specs.Value.{ValueOf}
 use Rattle.set_cell.specs.Setting.{SetHit, oneHalf, in-row, in-column, in-cell}

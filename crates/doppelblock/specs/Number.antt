@@ -3,7 +3,6 @@ use Prim.Native.Nat.{ℕ, _+_, _*_, _%_}
 use mathlib.Core.Path.{_≡_}
 use mathlib.Core.List.{List, [], _∷_}
 use Rattle.rules.specs.Grid.{Puzzle}
-use Rattle.rules.specs.Sums.{Sums}
 use Rattle.sheet_marking.specs.declared.Marked.{Marked}
 use Rattle.sheet_marking.specs.declared.Marked.the-variants.{Refused, Right, Wrong}
 use Rattle.engine.specs.declared.Counted.{Counted}
@@ -21,12 +20,6 @@ use lib.Dec.{eqb}
 use lib.ListN.{length}
 use Rattle.candidates.specs.Remaining.{TableGiven}
 
--- The number and the two target slices are as a definition says.
-pub record SumsGiven (given : Sums) (number : ℕ) (rows columns : List ℕ) : Type 0 where
-  pub number-is : number ≡ given .number
-  pub rows-are : rows ≡ given .rows
-  pub columns-are : columns ≡ given .columns
-
 -- The number of each answer of marking: a refusal is its own number.
 abbrev pub sheetNumber : Marked → ℕ
 sheetNumber (Refused k) = k
@@ -34,18 +27,9 @@ sheetNumber Wrong = 100
 sheetNumber Right = 101
 
 -- The number of each answer of Count, and the place of the count afterwards: as it was on a refusal.
-abbrev pub countNumber : Counted → ℕ
-countNumber (counts.Refused k) = k
-countNumber (Count c) = 0
-
-abbrev pub countAfter : Counted → ℕ → ℕ
-countAfter (counts.Refused k) old = old
-countAfter (Count c) old = c
-
--- The number and the count are those of an answer.
-pub record CountGiven (answer : Counted) (number old new : ℕ) : Type 0 where
-  pub number-is : number ≡ countNumber answer
-  pub count-is : new ≡ countAfter answer old
+abbrev pub countOut : Counted → ℕ → ℕ × ℕ
+countOut (counts.Refused k) old = (k, old)
+countOut (Count c) old = (0, c)
 
 -- The number of each answer of Solve.
 abbrev pub solveNumber : Solved → ℕ

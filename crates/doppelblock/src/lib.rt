@@ -12,7 +12,7 @@ ghost use Rattle.engine.specs.Answer.{countAnswer};
 ghost use Prim.Native.Nat.{_*_, min};
 ghost use lib.ListN.{length};
 ghost use Rattle.doppelblock.specs.Entries.{entryCount, mostLent};
-ghost use Rattle.doppelblock.specs.Number.{entriesOf, TableNumbered, SumsGiven, sheetNumber, CountGiven, solveNumber, SolveNumbered};
+ghost use Rattle.doppelblock.specs.Number.{entriesOf, TableNumbered, sheetNumber, countOut, solveNumber, SolveNumbered};
 
 pub struct Answer {
     pub number: u8,
@@ -42,7 +42,7 @@ pub extern "C" fn doppelblock_target_sums(
     rows: &mut [u8],
     columns: &mut [u8],
 ) -> u8
-    ensures { λ r. ⌜ SumsGiven (targetSums size (now (cells .entry)) (now (rows .entry)) (now (columns .entry))) r (now (rows .exit)) (now (columns .exit)) ⌝ }
+    ensures { λ r. ⌜ (r, now (rows .exit), now (columns .exit)) ≡ targetSums size (now (cells .entry)) (now (rows .entry)) (now (columns .entry)) ⌝ }
 {
     target_sums::number(target_sums::compute_targets(size, cells, rows, columns))
 }
@@ -80,8 +80,8 @@ pub extern "C" fn doppelblock_count(
     cap: u64,
     count: &mut u64,
 ) -> u8
-    ensures { λ r. ⌜ CountGiven (countAnswer (puzzle size (now (rows .entry)) (now (columns .entry))) (marksOf (now (marks .entry))) cap)
-        r (now (count .entry)) (now (count .exit)) ⌝ }
+    ensures { λ r. ⌜ (r, now (count .exit)) ≡ countOut
+        (countAnswer (puzzle size (now (rows .entry)) (now (columns .entry))) (marksOf (now (marks .entry))) cap) (now (count .entry)) ⌝ }
 {
     match engine::count(size, rows, columns, marks, cap) {
         Counted::Refused(k) => k,

@@ -7,7 +7,8 @@ use native.Mathlib.Omega.{arith}
 use lib.ListN.{length}
 use Rattle.rules.proofs.CheckLaws.{refusal-skip, refusal-stop, refusal-none-left, refusal-none-right}
 use Rattle.rules.specs.Grid.{Puzzle, puzzle}
-use Rattle.rules.specs.Check.{refusal, puzzleChecks, markChecks, countChecks}
+use Rattle.rules.specs.Check.{refusal, puzzleChecks, countChecks}
+use Rattle.rules.specs.CheckParts.{markChecks}
 use Rattle.rules.specs.Number.{number, capped}
 use Rattle.table.specs.Table.{left}
 use Rattle.puzzle.proofs.PuzzleLaws.{puzzle-numbered, accepted-size}

@@ -12,7 +12,8 @@ use Rattle.tally.specs.Tally.{join}
 use Rattle.rules.proofs.CheckLaws.{numbered, refusal-skip, refusal-stop, refusal-none, refusal-none-left, refusal-none-right, numbered-append}
 use Rattle.rules.specs.Size.{Size}
 use Rattle.rules.specs.Grid.{Puzzle, puzzle}
-use Rattle.rules.specs.Check.{checkBuffer, refusal, checkMark, puzzleChecks, markChecks, countChecks, solveChecks}
+use Rattle.rules.specs.Check.{checkBuffer, refusal, checkMark, puzzleChecks, countChecks, solveChecks}
+use Rattle.rules.specs.CheckParts.{markChecks}
 use Rattle.rules.specs.Number.{number, capped, verdictOf}
 use Rattle.number.specs.VerdictLaws.{verdict-capped}
 use Rattle.puzzle.proofs.PuzzleLaws.{puzzle-numbered, accepted-size}

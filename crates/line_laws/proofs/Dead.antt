@@ -6,7 +6,8 @@ use mathlib.Core.List.{List, List·Memᴰ}
 use native.Mathlib.Omega.{arith}
 use lib.ListN.{length}
 use Rattle.table.specs.Closed.{Arrangement, arrangements, place, allows}
-use Rattle.table.specs.Table.{Places, own}
+use Rattle.table.specs.Table.{own}
+use Rattle.table.specs.Lines.{Places}
 use Rattle.line_laws.proofs.Parts.{LawfulLine}
 use Rattle.line_laws.proofs.Arranged.{arranged, step-lt}
 use Rattle.line_laws.proofs.Found.{Follows}

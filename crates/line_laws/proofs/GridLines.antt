@@ -13,11 +13,11 @@ use Rattle.tally.proofs.WayLaws.{all-each, way-length}
 use Rattle.rules.specs.Grid.{lawful, lineSum, meets, keepsLine, Puzzle, Line, across, down, index, line, lines, target, cell, row, column}
 use Rattle.rules.proofs.GridLaws.{line-in, all-lines, line-keeps, line-way}
 use Rattle.rules.specs.Mark.{leftBlack}
-use Rattle.table.specs.Table.{Table, Places, places, firstBlack, half, own, fits}
+use Rattle.table.specs.Table.{Table, places, firstBlack, half, own, fits}
+use Rattle.table.specs.Lines.{Places, rowOf, columnOf}
 use Rattle.line_laws.proofs.Lists.{all-in}
 use Rattle.line_laws.proofs.Parts.{LawfulLine}
 use Rattle.line_laws.proofs.Values.{own-half, own-cell}
-use Rattle.table.specs.Place.{rowOf, columnOf}
 use Rattle.line_laws.specs.Grids.{GridOf}
 
 -- ---- a place of a line as a cell

@@ -14,7 +14,8 @@ use Rattle.tally.proofs.WayLaws.{way-map}
 use Rattle.rules.specs.Grid.{black, isBlack, digits, lawful, keepsLine}
 use Rattle.rules.specs.Number.{symbols}
 use Rattle.table.specs.Closed.{Arrangement, place, allows, Supported, ClosedLine}
-use Rattle.table.specs.Table.{Places, half, own}
+use Rattle.table.specs.Table.{half, own}
+use Rattle.table.specs.Lines.{Places}
 use Rattle.line_laws.proofs.Lists.{all-in, count-on, count-add, count-most, span-is-once}
 use Rattle.line_laws.proofs.Pigeonhole.{pigeonhole}
 use Rattle.line_laws.proofs.Half.{digit-range, HalfValue, a-digit, a-first, a-second, half-value, digit-in, first-in, second-in, half-once, half-length}

@@ -11,7 +11,8 @@ use lib.Seq.{drop-cons}
 use borrow.Author.Tests.{eq-eqb, ne-eqb, lt-ltb, le-ltb}
 use Rattle.tally.specs.Tally.{join}
 use Rattle.rules.specs.Mark.{markRow, markColumn, markValue, marksOf}
-use Rattle.rules.specs.Check.{refusal, named, checkMark, markChecks}
+use Rattle.rules.specs.Check.{refusal, named, checkMark}
+use Rattle.rules.specs.CheckParts.{markChecks}
 use Rattle.rules.proofs.CheckLaws.{numbered, refusal-skip, refusal-stop}
 use Rattle.mark_list.specs.declared.Mark.{Mark}
 use Rattle.mark_list.specs.Unpacked.{unpacked, wordAt}

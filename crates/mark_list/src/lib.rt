@@ -4,7 +4,8 @@ ghost use mathlib.Core.Path.{_≡_};
 ghost use Prim.Native.Nat.{_+_, _*_, _≤_, _<_};
 ghost use lib.ListN.{length};
 ghost use Rattle.rules.specs.Mark.{marksOf};
-ghost use Rattle.rules.specs.Check.{refusal, checkMark, markChecks};
+ghost use Rattle.rules.specs.Check.{refusal, checkMark};
+ghost use Rattle.rules.specs.CheckParts.{markChecks};
 ghost use Rattle.rules.specs.Size.{Size};
 ghost use Rattle.mark_list.specs.Unpacked.{unpacked, wordAt};
 

@@ -22,7 +22,7 @@ use Rattle.line_laws.proofs.Found.{Follows, Backed, backed}
 use Rattle.line_laws.proofs.Dead.{no-candidate, no-cell, dead-unfollowed}
 use Rattle.line_laws.proofs.GridLines.{place-in, line-lawful, line-meets, FitsLine}
 use Rattle.line_laws.specs.Grids.{GridOf}
-use Rattle.table.specs.Place.{rowOf, columnOf}
+use Rattle.table.specs.Lines.{rowOf, columnOf}
 use Rattle.soundness.proofs.CellValues.{CellValue, digit-value, row-black, column-black, cell-value, half-every, valueAt, value-in, value-has, has-is, has-fits}
 use Rattle.table.specs.Value.{IsValue}
 use Rattle.slab.specs.Slab.{cand, tableIn}

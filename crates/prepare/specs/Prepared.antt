@@ -5,7 +5,8 @@ use mathlib.Core.Bool.{Bool, true, false}
 use mathlib.Core.List.{List}
 use lib.ListN.{length}
 use Rattle.rules.specs.Grid.{Puzzle}
-use Rattle.rules.specs.Check.{refusal, puzzleChecks, markChecks}
+use Rattle.rules.specs.Check.{refusal, puzzleChecks}
+use Rattle.rules.specs.CheckParts.{markChecks}
 use Rattle.rules.specs.Number.{number}
 use Rattle.table.specs.Steps.{markedAll}
 use Rattle.soundness.specs.Marks.{Whole}

@@ -14,7 +14,7 @@ use Rattle.table.specs.Table.{Table, fits}
 use Rattle.table.specs.Steps.{taken}
 use Rattle.line_laws.proofs.GridLines.{place-in}
 use Rattle.line_laws.specs.Grids.{GridOf}
-use Rattle.table.specs.Place.{rowOf, columnOf}
+use Rattle.table.specs.Lines.{rowOf, columnOf}
 use Rattle.soundness.proofs.CellValues.{half-every, has-fits}
 use Rattle.table.specs.Value.{IsValue}
 use Rattle.soundness.proofs.SameLaws.{same-refl, same-trans, same-ext, within-fits, shrunk-same}

@@ -9,7 +9,8 @@ use borrow.Author.Tests.{eqb-true}
 use Rattle.tally.specs.Tally.{all}
 use Rattle.tally.proofs.TallyLaws.{and-left, and-right}
 use Rattle.rules.specs.Grid.{Puzzle, puzzle}
-use Rattle.rules.specs.Check.{refusal, maxTarget, sizeFits, targetsFit, puzzleChecks}
+use Rattle.rules.specs.Check.{refusal, maxTarget, puzzleChecks}
+use Rattle.rules.specs.CheckParts.{sizeFits, targetsFit}
 use Rattle.rules.proofs.CheckLaws.{numbered, refusal-none}
 use Rattle.rules.proofs.SizeLaws.{size-in}
 use Rattle.rules.specs.Size.{Size}

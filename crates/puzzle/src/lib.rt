@@ -2,7 +2,8 @@
 ghost use mathlib.Core.Path.{_≡_};
 ghost use lib.Dec.{leb};
 ghost use Rattle.tally.specs.Tally.{all};
-ghost use Rattle.rules.specs.Check.{refusal, maxTarget, sizeFits, targetsFit, puzzleChecks};
+ghost use Rattle.rules.specs.Check.{refusal, maxTarget, puzzleChecks};
+ghost use Rattle.rules.specs.CheckParts.{sizeFits, targetsFit};
 ghost use Rattle.rules.specs.Size.{Size};
 ghost use Rattle.rules.specs.Grid.{puzzle};
 

@@ -9,7 +9,7 @@ use borrow.Author.Tests.{not-true, not-false}
 use Rattle.rules.specs.Sums.{targetSums}
 use Rattle.rules.specs.Grid.{puzzle}
 use Rattle.sheet_marking.specs.Answer.{markSheet}
-use Rattle.doppelblock.specs.Number.{SumsGiven, sheetNumber}
+use Rattle.doppelblock.specs.Number.{sheetNumber}
 use Rattle.replay_records.specs.Fields.{field, recordSize}
 use Rattle.replay_records.specs.Agreement.{Says, SumsRecorded, SumsFrom, SumsAgree, SheetAgrees}
 
@@ -48,10 +48,10 @@ module _ (xs : List ℕ) where
   -- The target sums were called on the record's size and cells.
   pub sums-called :
       (size number : ℕ) (cells rows columns rows′ columns′ : List ℕ) (b : Bool) → size ≡ recordSize xs → cells ≡ field xs 1
-      → SumsGiven (targetSums size cells rows columns) number rows′ columns′ → Says b (SumsRecorded number rows′ columns′ xs)
+      → (number, rows′, columns′) ≡ targetSums size cells rows columns → Says b (SumsRecorded number rows′ columns′ xs)
       → Says b (SumsFrom rows columns xs)
   sums-called size number cells rows columns rows′ columns′ b s e g h =
-      rw (← s, ← e, ← g .number-is, ← g .rows-are, ← g .columns-are) h
+      rw (← s, ← e, ← g) h
 
   module _ (rows columns : List ℕ) (is-rows : rows ≡ field xs 2) (is-columns : columns ≡ field xs 3) where
     pub rows-long : 256 < length rows → Says false (SumsAgree xs)

@@ -10,7 +10,7 @@ use borrow.Author.Tests.{eq-eqb, eqb-true, not-true, not-false}
 use Rattle.rules.specs.Mark.{marksOf}
 use Rattle.rules.specs.Grid.{puzzle}
 use Rattle.engine.specs.Answer.{countAnswer}
-use Rattle.doppelblock.specs.Number.{CountGiven, SolveNumbered, TableNumbered}
+use Rattle.doppelblock.specs.Number.{countOut, SolveNumbered, TableNumbered}
 use Rattle.replay_records.specs.Fields.{field, recordSize, numberFrom}
 use Rattle.replay_records.specs.Agreement.{Says}
 use Rattle.replay_records.proofs.AgreementLaws.{says-no, says-refuted, says-also}
@@ -45,9 +45,9 @@ module _ (xs : List ℕ) where
   pub count-called :
       (size number cap old new : ℕ) (rows columns marks : List ℕ) (b : Bool) → size ≡ recordSize xs → rows ≡ field xs 1 → columns ≡ field xs 2
       → marks ≡ field xs 3
-      → CountGiven (countAnswer (puzzle size rows columns) (marksOf marks) cap) number old new
+      → (number, new) ≡ countOut (countAnswer (puzzle size rows columns) (marksOf marks) cap) old
       → Says b (CountRecorded number new xs) → Says b (CountFrom cap old xs)
-  count-called size number cap old new rows columns marks b s r c m g h = rw (← s, ← r, ← c, ← m, ← g .number-is, ← g .count-is) h
+  count-called size number cap old new rows columns marks b s r c m g h = rw (← s, ← r, ← c, ← m, ← g) h
 
   module _ (cap old : List ℕ) (is-cap : cap ≡ field xs 4) (is-old : old ≡ field xs 5) where
     pub cap-short : (length cap ≡ 8 → ⊥) → Says false (CountAgrees xs)

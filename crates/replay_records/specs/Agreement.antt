@@ -4,7 +4,7 @@ use mathlib.Core.Path.{_≡_}
 use mathlib.Core.Bool.{Bool, true}
 use mathlib.Core.List.{List, [], _∷_}
 use lib.ListN.{length}
-use Rattle.rules.specs.Sums.{Sums, targetSums}
+use Rattle.rules.specs.Sums.{targetSums}
 use Rattle.rules.specs.Grid.{puzzle}
 use Rattle.sheet_marking.specs.Answer.{markSheet}
 use Rattle.doppelblock.specs.Number.{sheetNumber}
@@ -22,8 +22,8 @@ pub record SumsRecorded (number : ℕ) (rows columns : List ℕ) (xs : List ℕ)
   pub columns-are : field xs 6 ≡ columns
 
 -- The record has what a definition gives.
-abbrev pub SumsAs : Sums → List ℕ → Type 0
-SumsAs given xs = SumsRecorded (given .number) (given .rows) (given .columns) xs
+abbrev pub SumsAs : ℕ × List ℕ × List ℕ → List ℕ → Type 0
+SumsAs given xs = SumsRecorded (given .0) (given .1) (given .2) xs
 
 -- The record has the target sums of its size and cells, where the target slices hold these bytes to begin with.
 abbrev pub SumsFrom : List ℕ → List ℕ → List ℕ → Type 0

@@ -9,7 +9,7 @@ use Rattle.rules.specs.Grid.{Puzzle, puzzle}
 use Rattle.rules.specs.Mark.{marksOf}
 use Rattle.engine.specs.declared.Counted.{Counted}
 use Rattle.engine.specs.Answer.{countAnswer}
-use Rattle.doppelblock.specs.Number.{countNumber, countAfter, SolveNumbered, TableNumbered}
+use Rattle.doppelblock.specs.Number.{countOut, SolveNumbered, TableNumbered}
 use Rattle.replay_records.specs.Fields.{field, recordSize, numberFrom}
 use Rattle.replay_records.specs.Agreement.{Says}
 
@@ -34,7 +34,7 @@ pub record CountRecorded (number count : ℕ) (xs : List ℕ) : Type 0 where
 
 -- The record has what an answer of Count gives, where the place of the count holds a number to begin with.
 abbrev pub CountAs : Counted → ℕ → List ℕ → Type 0
-CountAs answer old xs = CountRecorded (countNumber answer) (countAfter answer old) xs
+CountAs answer old xs = CountRecorded (countOut answer old .0) (countOut answer old .1) xs
 
 -- The record has the count of its puzzle and marks under a cap.
 abbrev pub CountFrom : ℕ → ℕ → List ℕ → Type 0

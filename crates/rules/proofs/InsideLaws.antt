@@ -8,7 +8,7 @@ use lib.Dec.{eqb}
 use borrow.Author.Tests.{ne-eqb}
 use Rattle.tally.specs.Tally.{oneIf, sum, all, count}
 use Rattle.rules.specs.Grid.{isBlack, untilBlack, inside}
-use Rattle.rules.specs.Check.{isEmpty}
+use Rattle.rules.specs.CheckParts.{isEmpty}
 
 until-black : (l : List ℕ) (c : ℕ) → isBlack c ≡ true → untilBlack (l ++ c ∷ []) ≡ untilBlack l
 unfolding untilBlack

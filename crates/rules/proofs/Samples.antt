@@ -9,7 +9,7 @@ use Rattle.rules.specs.Grid.{digits, lawful, untilBlack, inside, lineSum
 use Rattle.rules.specs.Mark.{rejects, markRow, markColumn, markValue, markSpare, blackWith, has, keepsMark, keepsMarks, marksOf}
 use Rattle.rules.specs.Number.{symbols, grids, solves, number, capped}
 use Rattle.rules.specs.Check.{refusal, maxTarget, named, checkLine, countChecks, solveChecks, sheetChecks, sumsChecks}
-use Rattle.rules.specs.Sums.{rowSums, columnSums, targetSums, sheetRight}
+use Rattle.rules.specs.Sums.{targetSums, sheetRight}
 use Rattle.rules.proofs.SizeFour.{threes, threes-none}
 
 -- ---- counts
@@ -119,10 +119,10 @@ pub record SampleFacts : Type 0 where
   pub buffer-last : map (refusal) (solveChecks (three 0 0 0 0 0 0) (0x0008 ∷ []) 8 ∷ solveChecks (three 0 0 0 0 0 0) (0x0008 ∷ []) 9 ∷ []) ≡ 7 ∷ 0 ∷ []
   pub sheet-buffer : map (λ g. refusal (sheetChecks (three 0 0 0 0 0 0) g)) (zeros ∷ corner ∷ []) ≡ 7 ∷ 0 ∷ []
   -- Target sums.
-  pub sums : targetSums 3 corner zeros zeros ≡ record { number = 0; rows = hundred; columns = hundred }
-  pub sums-short : targetSums 3 corner zeros [] ≡ record { number = 2; rows = zeros; columns = [] }
-  pub sums-cells-first : targetSums 4 corner zeros [] ≡ record { number = 7; rows = zeros; columns = [] }
-  pub sums-size-first : targetSums 10 corner zeros [] ≡ record { number = 1; rows = zeros; columns = [] }
+  pub sums : targetSums 3 corner zeros zeros ≡ (0, hundred, hundred)
+  pub sums-short : targetSums 3 corner zeros [] ≡ (2, zeros, [])
+  pub sums-cells-first : targetSums 4 corner zeros [] ≡ (7, zeros, [])
+  pub sums-size-first : targetSums 10 corner zeros [] ≡ (1, zeros, [])
   pub one-black : refusal (checkLine (255 ∷ 1 ∷ 2 ∷ [])) ≡ 8
   pub three-blacks : refusal (checkLine (255 ∷ 255 ∷ 255 ∷ [])) ≡ 8
   -- a line with the faults of 9 and of 10 gives 9
@@ -145,7 +145,7 @@ unfolding
     rejects blackWith has keepsMark keepsMarks marksOf
     symbols grids solves number capped
     refusal maxTarget named countChecks solveChecks sheetChecks sumsChecks
-    rowSums columnSums targetSums sheetRight
+    targetSums sheetRight
     right two three sample samples
 facts =
     record {

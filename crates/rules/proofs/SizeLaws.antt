@@ -9,7 +9,7 @@ use borrow.Author.Tests.{leb-true}
 use Rattle.tally.specs.Tally.{span, all}
 use Rattle.tally.proofs.TallyLaws.{and-left, and-right, span-mem}
 use Rattle.tally.proofs.WayLaws.{all-each}
-use Rattle.rules.specs.Check.{sizeFits}
+use Rattle.rules.specs.CheckParts.{sizeFits}
 use Rattle.rules.specs.Size.{Size}
 
 pub size-in : (n : ℕ) → sizeFits n ≡ true → Size n

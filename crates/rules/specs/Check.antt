@@ -1,7 +1,7 @@
 -- The checks that a call makes of its input, and the number that it refuses by. Assumes nothing.
 -- The numbers: 1 size, 2 lengths of the target slices, 3 targets; of a mark 4 spare bits, 5 cell, 6 value; 7 length of the buffer; of a line 8 blacks,
 -- 9 numbers between them, 10 sum; 11 the line of a text (crates/text_rules). 12 to 21 are kept for what docs/INTERFACE.md says; answers begin at 100.
-use Prim.Native.Nat.{ℕ, zero, suc, _-_, _*_, _/_}
+use Prim.Native.Nat.{ℕ, _-_, _*_, _/_}
 use mathlib.Core.Bool.{Bool, not, _&&_, _||_, cond}
 use mathlib.Core.List.{List, [], _∷_, _++_, map}
 use lib.Dec.{eqb, ltb, leb}
@@ -19,36 +19,19 @@ unfoldable pub refusal : List Check → ℕ
 refusal [] = 0
 refusal (check k ok ∷ cs) = cond ok (refusal cs) k
 
--- A buffer afterwards: as written where nothing is refused, else as it was.
-abbrev pub unlessRefused : ℕ → List ℕ → List ℕ → List ℕ
-unlessRefused zero old new = new
-unlessRefused (suc k) old new = old
-
 -- ---- the checks, by their numbers
 
--- The size is 2 to 9.
-abbrev pub sizeFits : ℕ → Bool
-sizeFits n = leb 2 n && leb n 9
-
--- 1: the size.
+-- 1: the size is 2 to 9.
 abbrev pub checkSize : ℕ → Check
-checkSize n = check 1 (sizeFits n)
+checkSize n = check 1 (leb 2 n && leb n 9)
 
--- Both target slices, by their lengths, are n long.
-abbrev pub targetsFit : ℕ → ℕ → ℕ → Bool
-targetsFit n rows columns = eqb rows n && eqb columns n
-
--- 2: the lengths of the target slices.
+-- 2: both target slices, by their lengths, are n long.
 abbrev pub checkLengths : ℕ → ℕ → ℕ → Check
-checkLengths n rows columns = check 2 (targetsFit n rows columns)
+checkLengths n rows columns = check 2 (eqb rows n && eqb columns n)
 
 -- The greatest target: the sum of all digits.
 unfoldable pub maxTarget : ℕ → ℕ
 maxTarget n = (n - 2) * (n - 1) / 2
-
--- 3: each target is at most the greatest.
-abbrev pub checkTargets : ℕ → List ℕ → List ℕ → Check
-checkTargets n rows columns = check 3 (all (λ t. leb t (maxTarget n)) rows && all (λ t. leb t (maxTarget n)) columns)
 
 -- A value that a mark may name at size n: a digit, or one of the four blacks.
 unfoldable pub named : ℕ → ℕ → Bool
@@ -63,14 +46,10 @@ checkMark n m =
 abbrev pub checkBuffer : ℕ → ℕ → Check
 checkBuffer n len = check 7 (eqb len (n * n))
 
--- A cell is empty.
-abbrev pub isEmpty : ℕ → Bool
-isEmpty c = eqb c 0
-
 -- 8, 9, 10: a line has exactly two blacks, only numbers between them, and a sum of at most 255.
 abbrev pub checkLine : List ℕ → List Check
 checkLine l =
-    check 8 (eqb (count isBlack l) 2) ∷ check 9 (all (λ c. not (isEmpty c)) (inside l)) ∷ check 10 (leb (lineSum l) 255) ∷ []
+    check 8 (eqb (count isBlack l) 2) ∷ check 9 (all (λ c. not (eqb c 0)) (inside l)) ∷ check 10 (leb (lineSum l) 255) ∷ []
 
 -- 8, 9, 10 for each line, the rows first.
 abbrev pub checkLines : ℕ → List ℕ → List Check
@@ -78,23 +57,19 @@ checkLines n g = join (map (λ ℓ. checkLine (line n g ℓ)) (lines n))
 
 -- ---- the checks of each call, in its order
 
--- The puzzle: 1, 2, 3.
+-- The puzzle: 1, 2, and 3: each target is at most the greatest.
 abbrev pub puzzleChecks : Puzzle → List Check
 puzzleChecks p =
     checkSize (p .size)
     ∷ checkLengths (p .size) (length (p .rows)) (length (p .columns))
-    ∷ checkTargets (p .size) (p .rows) (p .columns)
+    ∷ check 3 (all (λ t. leb t (maxTarget (p .size))) (p .rows) && all (λ t. leb t (maxTarget (p .size))) (p .columns))
     ∷ []
 
--- The marks, one after the other: 4, 5, 6.
-abbrev pub markChecks : ℕ → List ℕ → List Check
-markChecks n ms = join (map (checkMark n) ms)
-
--- Count: 1 to 6.
+-- Count: 1, 2, 3, then 4, 5, 6 mark by mark.
 unfoldable pub countChecks : Puzzle → List ℕ → List Check
-countChecks p ms = puzzleChecks p ++ markChecks (p .size) ms
+countChecks p ms = puzzleChecks p ++ join (map (checkMark (p .size)) ms)
 
--- Solve and Candidates: 1 to 7.
+-- Solve and Candidates: those of Count, then 7.
 unfoldable pub solveChecks : Puzzle → List ℕ → ℕ → List Check
 solveChecks p ms len = countChecks p ms ++ checkBuffer (p .size) len ∷ []
 

@@ -2,6 +2,7 @@ pub mod Grid
 pub mod Mark
 pub mod Number
 pub mod Check
+pub mod CheckParts
 pub mod Sums
 pub mod Strided
 pub mod Size

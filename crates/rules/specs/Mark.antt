@@ -13,37 +13,31 @@ use Rattle.rules.specs.Grid.{isBlack, cell, row, column}
 unfoldable pub rejects : ℕ → Bool
 rejects m = eqb (m / 32768 % 2) 1
 
--- The row of its cell.
+-- The row and the column of its cell, its value (a digit, or one of the four blacks below), and its spare bits.
 abbrev pub markRow : ℕ → ℕ
 markRow m = m / 2048 % 16
 
--- The column of its cell.
 abbrev pub markColumn : ℕ → ℕ
 markColumn m = m / 128 % 16
 
--- Its value: a digit, or one of the four blacks below.
 abbrev pub markValue : ℕ → ℕ
 markValue m = m / 8 % 16
 
--- Its spare bits.
 abbrev pub markSpare : ℕ → ℕ
 markSpare m = m % 8
 
 -- ---- the values of a cell
 
--- The first, or left, black of the cell's row.
+-- The blacks: the left and the right one of the cell's row, the upper and the lower one of its column.
 abbrev pub leftBlack : ℕ
 leftBlack = 8
 
--- The second, or right, black of the cell's row.
 abbrev pub rightBlack : ℕ
 rightBlack = 9
 
--- The first, or upper, black of the cell's column.
 abbrev pub upperBlack : ℕ
 upperBlack = 10
 
--- The second, or lower, black of the cell's column.
 abbrev pub lowerBlack : ℕ
 lowerBlack = 11
 
@@ -71,8 +65,7 @@ keepsMarks n ms g = all (keepsMark n g) ms
 
 -- ---- a list of marks in bytes
 
--- The marks of a list of bytes, two a mark, the more significant first. A byte left over is half a mark: its other half is read as 7, so that the
--- spare bits are not zero and the mark is refused.
+-- Two bytes a mark, the more significant first. A byte left over is half a mark: its other half is read as 7, so the spare bits are not zero.
 unfoldable pub marksOf : List ℕ → List ℕ
 marksOf [] = []
 marksOf (a ∷ []) = (a * 256 + 7) ∷ []

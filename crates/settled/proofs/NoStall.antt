@@ -28,7 +28,7 @@ use Rattle.line_laws.proofs.Parts.{two-blacks}
 use Rattle.line_laws.proofs.Arranged.{arranged, firstStep, secondStep, first-within, second-within, step-lt, first-second, covers-first, covers-second, live-first, live-second}
 use Rattle.line_laws.proofs.SettledLine.{Settled, symbolOf, cell-digit, cell-black}
 use Rattle.line_laws.proofs.GridLines.{line-cell}
-use Rattle.table.specs.Place.{rowOf, columnOf}
+use Rattle.table.specs.Lines.{rowOf, columnOf}
 use Rattle.settled.proofs.ReadLaws.{valueOf, settle, settled-choices, read-value, read-way, cell-read}
 use Rattle.settled.proofs.SettledTable.{line-size, read-lawful}
 use Rattle.settled.specs.EmptyCell.{Empty}

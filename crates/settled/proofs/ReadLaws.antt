@@ -18,7 +18,7 @@ use Rattle.line_laws.proofs.Lists.{count-pos, count-sole, once-same, map-on}
 use Rattle.line_laws.proofs.Half.{digit-range, HalfValue, a-digit, a-first, a-second, half-value, digit-in, half-once}
 use Rattle.line_laws.proofs.SettledLine.{Settled, symbolOf, cell-digit, cell-black}
 use Rattle.line_laws.proofs.GridLines.{place-in, line-map, places-cell}
-use Rattle.table.specs.Place.{rowOf, columnOf}
+use Rattle.table.specs.Lines.{rowOf, columnOf}
 
 -- ---- the first element that passes
 

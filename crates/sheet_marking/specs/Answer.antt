@@ -3,7 +3,8 @@ use Prim.Native.Nat.{ℕ, zero, suc, _*_}
 use mathlib.Core.Bool.{Bool, true, false}
 use mathlib.Core.List.{List}
 use Rattle.rules.specs.Grid.{Puzzle}
-use Rattle.rules.specs.Check.{refusal, sheetChecks, sizeFits}
+use Rattle.rules.specs.Check.{refusal, sheetChecks}
+use Rattle.rules.specs.CheckParts.{sizeFits}
 use Rattle.rules.specs.Sums.{sheetRight}
 use Rattle.sheet_marking.specs.declared.Marked.{Marked}
 use Rattle.sheet_marking.specs.declared.Marked.the-variants.{Refused, Right, Wrong}

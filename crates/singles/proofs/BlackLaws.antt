@@ -13,7 +13,7 @@ use Rattle.tally.proofs.TallyLaws.{and-both}
 use Rattle.rules.specs.Grid.{Line, across, down}
 use Rattle.table.specs.Table.{firstBlack}
 use Rattle.line_laws.proofs.Lists.{or-split}
-use Rattle.table.specs.Place.{rowOf, columnOf, cellOf}
+use Rattle.table.specs.Lines.{rowOf, columnOf, cellOf}
 use Rattle.bits.specs.Bit.{bit}
 use Rattle.bits.specs.Sum.{sumOver}
 use Rattle.bits.proofs.SumLaws.{sum-has}

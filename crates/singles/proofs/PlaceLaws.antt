@@ -22,7 +22,7 @@ use Rattle.counters.specs.Counters.{Fell, IsSet, AllSet, inLine, placesBase, li
 use Rattle.counters.proofs.CounterLaws.{fell-lower, fell-struck, fell-moved, moved-refl, ruled-pass, ruled-positive, ruled-most, ruled-done}
 use Rattle.counters.proofs.Families.{fine-places}
 use Rattle.counters.proofs.Lines.{in-grid, grid-place, place-yes, in-half, line-hit, counter-value, counter-used, counter-cell}
-use Rattle.table.specs.Place.{cellOf}
+use Rattle.table.specs.Lines.{cellOf}
 use Rattle.singles.proofs.ReasonLaws.{still-lower, taken-at}
 use Rattle.singles.specs.Reasons.{Reason, hidden, done, step}
 use Rattle.singles.specs.Handling.{FindAsk, PlaceFound, PlacesAt, PlacesAsk, PlacesDone}

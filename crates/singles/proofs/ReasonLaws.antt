@@ -6,7 +6,7 @@ use lib.Dec.{eqb}
 use lib.ListN.{getD, set}
 use Rattle.rules.specs.Grid.{Line, index}
 use Rattle.table.specs.Steps.{taken}
-use Rattle.table.specs.Place.{rowOf, columnOf, cellOf}
+use Rattle.table.specs.Lines.{rowOf, columnOf, cellOf}
 use Rattle.slab.specs.Slab.{tableIn, Sized, Struck}
 use Rattle.slab.proofs.StruckLaws.{set-cand}
 use Rattle.set_cell.specs.Setting.{SetHit}

@@ -11,7 +11,7 @@ use Rattle.slab.specs.Ready.{Ready, Next, Moved}
 use Rattle.table.specs.Value.{ValueOf}
 use Rattle.set_cell.specs.Run.{Inside}
 use Rattle.counters.specs.Counters.{inLine, halvesBase, placesBase, blacksBase, ownBlack, HalvesOf, PlacesOf, BlacksOf, Halves, LinePlaces, Blacks}
-use Rattle.table.specs.Place.{cellOf}
+use Rattle.table.specs.Lines.{cellOf}
 use Rattle.singles.specs.Reasons.{Steps}
 
 -- The strike at h, of the value v of the cell of row r and column c, is handled.

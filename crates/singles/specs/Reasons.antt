@@ -6,7 +6,7 @@ use mathlib.Core.List.{List, List·Memᴰ}
 use Rattle.rules.specs.Grid.{Line, index}
 use Rattle.table.specs.Table.{Table, places, firstBlack, half}
 use Rattle.table.specs.Steps.{taken}
-use Rattle.table.specs.Place.{rowOf, columnOf}
+use Rattle.table.specs.Lines.{rowOf, columnOf}
 use Rattle.slab.specs.Slab.{tableIn}
 
 -- The state's table is t.

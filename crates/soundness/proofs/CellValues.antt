@@ -20,7 +20,7 @@ use Rattle.line_laws.proofs.Parts.{LawfulLine, two-blacks}
 use Rattle.line_laws.proofs.Values.{cell-symbol, own-half, own-inj, own-onto}
 use Rattle.line_laws.proofs.GridLines.{place-in, line-cell, places-cell, line-lawful, fits-at, fits-all}
 use Rattle.line_laws.specs.Grids.{GridOf}
-use Rattle.table.specs.Place.{rowOf, columnOf}
+use Rattle.table.specs.Lines.{rowOf, columnOf}
 use Rattle.table.specs.Value.{IsValue, InHalf}
 
 -- ---- the values of a cell

@@ -13,7 +13,8 @@ use Rattle.tally.proofs.TallyLaws.{and-left, and-right, and-both, span-mem}
 use Rattle.rules.specs.Grid.{digits, Puzzle, across, down}
 use Rattle.rules.specs.Mark.{rejects, markRow, markColumn, markValue, has, keepsMark, keepsMarks}
 use Rattle.rules.specs.Number.{solves, number, Solution}
-use Rattle.rules.specs.Check.{refusal, named, checkMark, markChecks}
+use Rattle.rules.specs.Check.{refusal, named, checkMark}
+use Rattle.rules.specs.CheckParts.{markChecks}
 use Rattle.rules.proofs.CheckLaws.{numbered, refusal-none, refusal-none-left, refusal-none-right}
 use Rattle.table.specs.Table.{Table, firstBlack, fits, left, inRow, inColumn}
 use Rattle.table.specs.Steps.{struck, taken, marked, markedAll}

@@ -20,7 +20,7 @@ use Rattle.line_laws.proofs.Lists.{false-of, or-split}
 use Rattle.line_laws.proofs.Half.{HalfValue, a-digit, a-first, a-second, half-value, digit-in}
 use Rattle.line_laws.proofs.GridLines.{place-in}
 use Rattle.line_laws.specs.Grids.{GridOf}
-use Rattle.table.specs.Place.{rowOf, columnOf}
+use Rattle.table.specs.Lines.{rowOf, columnOf}
 use Rattle.soundness.proofs.CellValues.{valueAt, hasAt, CellValue, digit-value, row-black, column-black, cell-value, half-every, by-line, has-own, value-in, value-has, once-in-cell, once-in-line, has-black, second-behind, first-before, fits-has, has-fits}
 use Rattle.table.specs.Value.{IsValue, InHalf}
 use Rattle.soundness.proofs.SameLaws.{within-fits, count-grids}
@@ -164,7 +164,7 @@ column-value n v z m = go (half-value n 10 v m)
     go (a-first e) = rw (le-leb 10 v (omega arith)) (or-true (ltb v 8))
     go (a-second e) = rw (le-leb 10 v (omega arith)) (or-true (ltb v 8))
 
-same-half : (n : ℕ) → n ≤ 9 → (ℓ : Line) (v w : ℕ) → InHalf n ℓ v → InHalf n ℓ w →
+pub same-half : (n : ℕ) → n ≤ 9 → (ℓ : Line) (v w : ℕ) → InHalf n ℓ v → InHalf n ℓ w →
     ((inRow v && inRow w) || (inColumn v && inColumn w)) ≡ true
 unfolding firstBlack
 same-half n z (across r) v w mv mw = rw (row-value n v z mv, row-value n w z mw)

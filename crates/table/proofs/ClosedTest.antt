@@ -14,7 +14,8 @@ use Rattle.tally.proofs.TallyLaws.{span-in, span-mem}
 use Rattle.rules.specs.Grid.{digits, Line, across, down, index, lines, Puzzle, target}
 use Rattle.rules.specs.Mark.{leftBlack, rightBlack, upperBlack, lowerBlack}
 use Rattle.table.specs.Closed.{Arrangement, arrangements, place, allows, Live, Covers, Supported, Closed}
-use Rattle.table.specs.Table.{Table, Places, places, firstBlack, half}
+use Rattle.table.specs.Table.{Table, places, firstBlack, half}
+use Rattle.table.specs.Lines.{Places}
 use Rattle.table.specs.Steps.{lays}
 use Rattle.table.proofs.Decides.{Decides, implies, restate, is, equal, agree, both, if-then, each, some, each-below, each-line}
 

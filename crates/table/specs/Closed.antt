@@ -9,7 +9,7 @@ use lib.ListN.{length}
 use Rattle.tally.specs.Tally.{span, sum, keep, any, join}
 use Rattle.rules.specs.Grid.{digits, meets, Line, index, Puzzle, target}
 use Rattle.rules.specs.Mark.{leftBlack, rightBlack, upperBlack, lowerBlack}
-use Rattle.table.specs.Table.{Table, Places, places, firstBlack, half}
+use Rattle.table.specs.Table.{Table, places, firstBlack, half}
 
 -- ---- arrangements
 
@@ -59,7 +59,7 @@ allows k a j v =
     (cond (eqb j (length (a .digitSet) + 1)) (eqb v (cond (a .isInside) (suc k) k)) (any (eqb v) (a .digitSet)))
 
 -- Each of its cells still has a candidate of the pattern.
-pub record Live (n k : ℕ) (m : Places) (a : Arrangement) : Type 0 where
+pub record Live (n k : ℕ) (m : ℕ → ℕ → Bool) (a : Arrangement) : Type 0 where
   pub live : (j : ℕ) → j < length (a .digitSet) + 2 → (v : ℕ) × (m (place n a j) v ≡ true) × (allows k a j v ≡ true)
 
 -- The value v of place i lies in it.
@@ -70,7 +70,7 @@ pub record Covers (n k : ℕ) (a : Arrangement) (i v : ℕ) : Type 0 where
   pub allowed : allows k a step v ≡ true
 
 -- The value v of place i lies in a live arrangement of the line.
-pub record Supported (n k t : ℕ) (m : Places) (i v : ℕ) : Type 0 where
+pub record Supported (n k t : ℕ) (m : ℕ → ℕ → Bool) (i v : ℕ) : Type 0 where
   pub arrangement : Arrangement
   pub listed : List·Memᴰ arrangement (arrangements n t)
   pub alive : Live n k m arrangement
@@ -79,7 +79,7 @@ pub record Supported (n k t : ℕ) (m : Places) (i v : ℕ) : Type 0 where
 -- ---- closed
 
 -- A closed line with target t, if k is its first black.
-pub record ClosedLine (n k t : ℕ) (m : Places) : Type 0 where
+pub record ClosedLine (n k t : ℕ) (m : ℕ → ℕ → Bool) : Type 0 where
   -- a half with one candidate left: that candidate is nowhere else in the line
   pub lone : (i j v : ℕ) → i < n → j < n → i ≢ j → List·Memᴰ v (half n k) → m i v ≡ true → ((w : ℕ) → List·Memᴰ w (half n k) → m i w ≡ true → w ≡ v) → m j v ≡ false
   -- a candidate with one place left in the line: that place's half has no other

@@ -3,4 +3,4 @@ pub mod Closed
 pub mod Steps
 pub mod Reading
 pub mod Value
-pub mod Place
+pub mod Lines

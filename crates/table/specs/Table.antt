@@ -9,17 +9,12 @@ use Rattle.rules.specs.Grid.{isBlack, digits, Line, across, down, line, lines, 
 use Rattle.rules.specs.Mark.{leftBlack, upperBlack}
 use Rattle.rules.specs.Number.{grids}
 
--- A table says of each row, column and value whether the cell may still have the value. Values are those of marks: a digit, 8 and 9 the blacks of the
--- cell's row, 10 and 11 the blacks of its column.
+-- A table says of each row, column and value (a digit or a black, as in marks) whether the cell may still have the value.
 abbrev pub Table : Type 0
 Table = ℕ → ℕ → ℕ → Bool
 
 -- The part of a table that a line has: place and value.
-abbrev pub Places : Type 0
-Places = ℕ → ℕ → Bool
-
--- The places of a line.
-unfoldable pub places : Table → Line → Places
+unfoldable pub places : Table → Line → ℕ → ℕ → Bool
 places t (across r) i v = t r i v
 places t (down c) i v = t i c v
 

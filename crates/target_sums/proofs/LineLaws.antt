@@ -11,7 +11,8 @@ use native.Mathlib.Numerals.{add-one}
 use borrow.Author.Tests.{eq-eqb, ne-eqb, le-leb, lt-leb, leb-true}
 use Rattle.tally.specs.Tally.{all, count, join, span}
 use Rattle.rules.specs.Grid.{isBlack, inside, lineSum}
-use Rattle.rules.specs.Check.{Check, refusal, isEmpty, checkLine}
+use Rattle.rules.specs.Check.{Check, refusal, checkLine}
+use Rattle.rules.specs.CheckParts.{isEmpty}
 use Rattle.rules.proofs.CheckLaws.{numbered, refusal-skip, refusal-stop}
 use Rattle.rules.proofs.StridedLaws.{map-next}
 use Rattle.rules.specs.Strided.{strided}

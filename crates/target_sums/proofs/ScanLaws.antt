@@ -7,7 +7,7 @@ use borrow.Author.Tests.{eq-eqb, ne-eqb}
 use Rattle.tally.specs.Tally.{count, sum, oneIf}
 use Rattle.tally.proofs.TallyLaws.{bit-eq, bit-ne}
 use Rattle.rules.specs.Grid.{isBlack, inside, lineSum}
-use Rattle.rules.specs.Check.{isEmpty}
+use Rattle.rules.specs.CheckParts.{isEmpty}
 use Rattle.rules.proofs.InsideLaws.{inside-black, inside-white, inside-off, sum-snoc, count-snoc}
 use Rattle.target_sums.specs.declared.Scan.{Scan}
 use Rattle.target_sums.specs.Scanning.{Seen, OneMore}

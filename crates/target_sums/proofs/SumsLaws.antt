@@ -11,12 +11,13 @@ use Rattle.tally.specs.Tally.{join}
 use Rattle.tally.proofs.TallyLaws.{and-left, and-right}
 use Rattle.rules.specs.Grid.{lineSum}
 use Rattle.rules.proofs.GridLaws.{place-lt}
-use Rattle.rules.specs.Check.{Check, refusal, checkLine, sizeFits, targetsFit, sumsChecks}
+use Rattle.rules.specs.Check.{Check, refusal, checkLine, sumsChecks}
+use Rattle.rules.specs.CheckParts.{sizeFits, targetsFit}
 use Rattle.rules.proofs.CheckLaws.{refusal-skip, refusal-stop, refusal-none, refusal-none-left, refusal-none-right, refusal-none-each, numbered, numbered-join}
 use Rattle.rules.proofs.StridedLaws.{checks-each, rows-each, columns-each}
 use Rattle.rules.specs.Strided.{strided, each}
 use Rattle.rules.proofs.SizeLaws.{size-in}
-use Rattle.rules.specs.Sums.{targetSums, rowSums, columnSums}
+use Rattle.rules.specs.Sums.{targetSums}
 use Rattle.target_sums.specs.declared.Summed.the-variants.{Refused, Done}
 use Rattle.target_sums.specs.Answer.{summed, numberOf, SumsAnswered}
 use Rattle.target_sums.specs.Scanning.{LinesInside, SumsAsk}
@@ -120,7 +121,7 @@ refused n g rows columns (suc k) e z = rw (← e) (record { answer-is = refl; ro
 
 pub done : (n : ℕ) (g rows columns rows′ columns′ : List ℕ) (k : ℕ) → k ≡ refusal (sumsChecks n g (length rows) (length columns)) → k ≡ 0 →
     rows′ ≡ each lineSum n 1 g n n → columns′ ≡ each lineSum 1 n g n n → SumsAnswered (targetSums n g rows columns) Done rows′ columns′
-unfolding targetSums rowSums columnSums
+unfolding targetSums
 done n g rows columns rows′ columns′ k d z r c =
     rw (sym d ∙ z) (record { answer-is = refl; rows-are = r ∙ sym (rows-each lineSum n g); columns-are = c ∙ sym (columns-each lineSum n g) })
 

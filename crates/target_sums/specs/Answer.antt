@@ -2,7 +2,6 @@
 use Prim.Native.Nat.{ℕ, zero, suc}
 use mathlib.Core.Path.{_≡_}
 use mathlib.Core.List.{List}
-use Rattle.rules.specs.Sums.{Sums}
 use Rattle.target_sums.specs.declared.Summed.{Summed}
 use Rattle.target_sums.specs.declared.Summed.the-variants.{Refused, Done}
 
@@ -17,7 +16,7 @@ numberOf Done = 0
 numberOf (Refused k) = k
 
 -- A call answered and left the two target slices as a definition says.
-pub record SumsAnswered (given : Sums) (answer : Summed) (rows columns : List ℕ) : Type 0 where
-  pub answer-is : answer ≡ summed (given .number)
-  pub rows-are : rows ≡ given .rows
-  pub columns-are : columns ≡ given .columns
+pub record SumsAnswered (given : ℕ × List ℕ × List ℕ) (answer : Summed) (rows columns : List ℕ) : Type 0 where
+  pub answer-is : answer ≡ summed (given .0)
+  pub rows-are : rows ≡ given .1
+  pub columns-are : columns ≡ given .2

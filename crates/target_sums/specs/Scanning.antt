@@ -5,7 +5,7 @@ use mathlib.Core.List.{List, [], _∷_, _++_}
 use lib.ListN.{length}
 use Rattle.tally.specs.Tally.{count}
 use Rattle.rules.specs.Grid.{isBlack, inside, lineSum}
-use Rattle.rules.specs.Check.{isEmpty}
+use Rattle.rules.specs.CheckParts.{isEmpty}
 use Rattle.rules.specs.Strided.{strided}
 use Rattle.target_sums.specs.declared.Scan.{Scan}
 

@@ -7,7 +7,8 @@ use native.Mathlib.Omega.{arith}
 use lib.ListN.{length, getD, take, drop, length-take, length-drop}
 use lib.Seq.{take-all}
 use borrow.Author.Tests.{eq-eqb, ne-eqb}
-use Rattle.rules.specs.Check.{refusal, sizeFits, puzzleChecks}
+use Rattle.rules.specs.Check.{refusal, puzzleChecks}
+use Rattle.rules.specs.CheckParts.{sizeFits}
 use Rattle.rules.specs.Number.{number, verdictOf}
 use Rattle.rules.specs.Grid.{puzzle}
 use Rattle.text_rules.specs.Fields.{sizeOf, puzzleFrom, numberChecks, numbers, lineChecks}

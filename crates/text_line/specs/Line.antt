@@ -6,7 +6,8 @@ use mathlib.Core.List.{List, [], _++_}
 use lib.ListN.{length}
 use Rattle.tally.specs.Tally.{all}
 use Rattle.rules.specs.Grid.{Puzzle}
-use Rattle.rules.specs.Check.{refusal, sizeFits, puzzleChecks}
+use Rattle.rules.specs.Check.{refusal, puzzleChecks}
+use Rattle.rules.specs.CheckParts.{sizeFits}
 use Rattle.rules.specs.Number.{number, verdictOf, Solution}
 use Rattle.engine.specs.declared.Solved.{Solved}
 use Rattle.engine.specs.declared.Solved.the-variants.{Refused, Unsolvable, Unique, Multiple}

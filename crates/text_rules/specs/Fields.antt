@@ -6,7 +6,8 @@ use lib.Dec.{eqb, leb}
 use lib.ListN.{length, getD, take, drop}
 use Rattle.tally.specs.Tally.{all}
 use Rattle.rules.specs.Grid.{Puzzle}
-use Rattle.rules.specs.Check.{Check, check, checkSize, checkTargets}
+use Rattle.rules.specs.Check.{Check, check, checkSize}
+use Rattle.rules.specs.CheckParts.{checkTargets}
 
 -- The byte between two fields.
 abbrev pub space : ℕ

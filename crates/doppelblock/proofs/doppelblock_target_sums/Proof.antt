@@ -2,6 +2,7 @@
 use mathlib.Core.Path.{ap, _∙_}
 use Rattle.target_sums.specs.Answer.{numberOf}
 use Rattle.target_sums.proofs.SumsLaws.{number-summed}
+use Rattle.doppelblock.proofs.NumberLaws.{sums-given}
 use borrow.Author.Needs.{needs}
 use Rattle.doppelblock.proofs.doppelblock_target_sums.Statement.{statement}
 use Rattle.doppelblock.proofs.doppelblock_target_sums.Tie as tie
@@ -21,7 +22,7 @@ same-length-2 c = search needs
 returns : tie.Need-returns
 returns c =
     let t = c .before .before .before .before .before .compute-targets .ensures in
-    record { number-is = c .number .ensures ∙ ap numberOf (t .answer-is) ∙ number-summed _; rows-are = t .rows-are; columns-are = t .columns-are }
+    sums-given (c .number .ensures ∙ ap numberOf (t .answer-is) ∙ number-summed _) (t .rows-are) (t .columns-are)
 
 pub doppelblock-target-sums-spec : {M : Type 1} → statement M
 doppelblock-target-sums-spec =

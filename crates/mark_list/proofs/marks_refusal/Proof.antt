@@ -4,7 +4,8 @@ use mathlib.Core.Path.{_≡_, refl, sym, ap, _∙_}
 use native.Mathlib.Omega.{arith}
 use lib.ListN.{length, drop}
 use Rattle.rules.specs.Mark.{marksOf}
-use Rattle.rules.specs.Check.{refusal, checkMark, markChecks}
+use Rattle.rules.specs.Check.{refusal, checkMark}
+use Rattle.rules.specs.CheckParts.{markChecks}
 use Rattle.mark_list.proofs.MarkLaws.{list-stop, list-skip, list-end}
 use borrow.Author.Needs.{needs}
 use Rattle.mark_list.proofs.marks_refusal.Statement.{statement}

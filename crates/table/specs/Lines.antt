@@ -1,5 +1,6 @@
 -- The places of a line as cells of the grid. Assumes nothing.
 use Prim.Native.Nat.{ℕ, _+_, _*_}
+use mathlib.Core.Bool.{Bool}
 use Rattle.rules.specs.Grid.{Line, across, down}
 
 unfoldable pub rowOf : Line → ℕ → ℕ
@@ -14,3 +15,7 @@ columnOf (down c) i = c
 abbrev pub cellOf : Line → ℕ → ℕ
 cellOf (across r) i = r * 9 + i
 cellOf (down c) i = i * 9 + c
+
+-- The part of a table that a line has: place and value.
+abbrev pub Places : Type 0
+Places = ℕ → ℕ → Bool
