@@ -9,6 +9,7 @@ ghost use Rattle.arcs.specs.Have.{HaveAsk, Have, Tested, testOf, shiftOf
 ghost use Rattle.arcs.specs.Sweep.{RemoveAsk, Removed, SweepAsk, Swept, LineDone};
 ghost use Rattle.arcs.specs.Sunk.{Sunk, single, masked, DropAsk, DigitsAsk};
 use slab::Slab;
+use value::Value;
 
 // A support falls; without support the candidate is struck.
 fn drop_support(st: &mut [u16], place: usize, cell: usize, v: usize)
@@ -279,14 +280,14 @@ pub fn update_arc(st: &mut [u16], words: &[u32], n: usize, r: usize, c: usize, v
     requires { ⌜ ArcAsk n (now words) (now st) r c v ⌝ }
     ensures { λ _. ⌜ ArcDone n (now (st .entry)) (now (st .exit)) r c v ⌝ }
 {
-    if v < 8 {
-        update_digit(st, words, n, r, r * 9, 1, 8, c, v);
-        update_digit(st, words, n, 9 + c, c, 9, 10, r, v);
+    if v < Value::BLACK1_ROW {
+        update_digit(st, words, n, r, r * 9, 1, Value::BLACK1_ROW, c, v);
+        update_digit(st, words, n, 9 + c, c, 9, Value::BLACK1_COL, r, v);
         return;
     }
-    if v < 10 {
-        update_black(st, words, n, r, r * 9, 1, 8, c, v);
+    if v < Value::BLACK1_COL {
+        update_black(st, words, n, r, r * 9, 1, Value::BLACK1_ROW, c, v);
         return;
     }
-    update_black(st, words, n, 9 + c, c, 9, 10, r, v);
+    update_black(st, words, n, 9 + c, c, 9, Value::BLACK1_COL, r, v);
 }

@@ -2,6 +2,7 @@
 use puzzle::max_target;
 use slab::Slab;
 use slab::wide;
+use value::Value;
 use words::Subset;
 use words::first_of;
 use words::from_sum;
@@ -183,6 +184,6 @@ pub fn open_arrangements(st: &mut [u16], words: &[u32], n: usize, rows: &[u8], c
     requires { ⌜ OpenAsk n (now words) (now rows) (now columns) (now st) ⌝ }
     ensures { λ _. ⌜ LinesListed n (now (rows .entry)) (now (columns .entry)) (now (st .entry)) (now (st .exit)) ⌝ }
 {
-    open_lines(st, words, n, 0, 8, rows);
-    open_lines(st, words, n, 9, 10, columns);
+    open_lines(st, words, n, 0, Value::BLACK1_ROW, rows);
+    open_lines(st, words, n, 9, Value::BLACK1_COL, columns);
 }

@@ -2,6 +2,7 @@
 use listing::open_arrangements;
 use slab::Slab;
 use slab::clear_mask;
+use value::Value;
 ghost use mathlib.Core.Path.{_≡_};
 ghost use Prim.Native.Nat.{_+_, _*_, _≤_, _<_};
 ghost use lib.ListN.{length};
@@ -25,6 +26,9 @@ fn unsupported(st: &[u16], line: usize, p: usize) -> u16
     m
 }
 
+// The bits below those of the blacks: the digits, and bit 0, which no cell has.
+const LOW: u16 = Value::DIGITS + 1;
+
 // Strikes the candidates of a cell that have no support: blacks go by their own line, digits by both.
 fn seed_cell(st: &mut [u16], r: usize, c: usize)
     requires { ⌜ Sized (now st) × (r < 9) × (c < 9) ⌝ }
@@ -32,7 +36,11 @@ fn seed_cell(st: &mut [u16], r: usize, c: usize)
 {
     let a = unsupported(st, r, c);
     let b = unsupported(st, 9 + c, r);
-    clear_mask(st, r * 9 + c, (a & 768) | (b & 3072) | ((a | b) & 255));
+    clear_mask(
+        st,
+        r * 9 + c,
+        (a & Value::ROW_BLACKS) | (b & Value::COL_BLACKS) | ((a | b) & LOW),
+    );
 }
 
 fn seed_row(st: &mut [u16], n: usize, r: usize)

@@ -1,6 +1,7 @@
 // The branching rule (in the Rust: pick_branching_cell and pick_branching_bit). Called once for each node of the search, some 250 ns at size 9.
 // Which cell and which value it takes is promised nowhere: the contract of `pick_branch` says what every rule has to keep.
 use slab::Slab;
+use value::Value;
 ghost use mathlib.Core.Path.{_≡_};
 ghost use Prim.Native.Nat.{_+_, _*_, _<_};
 ghost use Rattle.slab.specs.Ready.{Ready};
@@ -19,15 +20,12 @@ pub struct Best {
     pub free: u32,
 }
 
-// The digits and the row blacks, bits 1 to 9.
-const ROW_HALF: u16 = 1022;
-
 // How many row-half candidates a cell has.
 fn freedom(st: &[u16], cell: usize) -> u32
     requires { ⌜ PlaceAsk (now st) cell ⌝ }
     ensures { λ r. ⌜ r ≡ rowChoices (now (st .entry)) cell ⌝ }
 {
-    u16::count_ones(st[cell] & ROW_HALF)
+    u16::count_ones(st[cell] & Value::ROW_HALF)
 }
 
 // The better of two cells: a choice at all, then the fewest candidates, then the first.
@@ -82,7 +80,7 @@ fn pick_value(st: &[u16], cell: usize) -> usize
     requires { ⌜ (PlaceAsk (now st) cell) × (0 < rowChoices (now st) cell) ⌝ }
     ensures { λ v. ⌜ Candidate (now (st .entry)) cell v ⌝ }
 {
-    let mut rest = st[cell] & ROW_HALF;
+    let mut rest = st[cell] & Value::ROW_HALF;
     let mut best = u16::trailing_zeros(rest) as usize;
     let mut least = 65535u16;
     while rest != 0 {

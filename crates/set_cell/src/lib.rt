@@ -1,6 +1,7 @@
 // Setting a cell to a value strikes what the rules of the puzzle then leave out (in the Rust: set_cell).
 use slab::clear_mask;
 use slab::clear_value;
+use value::Value;
 ghost use mathlib.Core.Path.{_≡_};
 ghost use Prim.Native.Nat.{_≤_, _<_};
 ghost use Rattle.table.specs.Table.{inColumn, inRow};
@@ -12,17 +13,17 @@ ghost use Rattle.set_cell.specs.Setting.{SetHit, SetAsk, RowOthers, Colu
 pub fn in_row(v: usize) -> bool
     ensures { λ r. ⌜ r ≡ inRow v ⌝ }
 {
-    v < 10
+    v < Value::BLACK1_COL
 }
 
 // A value of the column half: a digit or a column black.
 pub fn in_column(v: usize) -> bool
     ensures { λ r. ⌜ r ≡ inColumn v ⌝ }
 {
-    if v < 8 {
+    if v < Value::BLACK1_ROW {
         return true;
     }
-    10 <= v
+    Value::BLACK1_COL <= v
 }
 
 // Strikes v at the places from a to b - 1 of a line.
@@ -71,9 +72,9 @@ fn clear_around(st: &mut [u16], n: usize, r: usize, c: usize, v: usize)
     requires { ⌜ SetAsk n (now st) r c v ⌝ }
     ensures { λ _. ⌜ Struck (now (st .entry)) (now (st .exit)) (BlacksAround n r c v) ⌝ }
 {
-    if 8 <= v {
-        clear_sides(st, n, r * 9, 1, c, 9, 8);
-        clear_sides(st, n, c, 9, r, 11, 10);
+    if Value::BLACK1_ROW <= v {
+        clear_sides(st, n, r * 9, 1, c, Value::BLACK2_ROW, Value::BLACK1_ROW);
+        clear_sides(st, n, c, 9, r, Value::BLACK2_COL, Value::BLACK1_COL);
     }
 }
 
@@ -82,13 +83,13 @@ fn rest_of_half(v: usize) -> u16
     requires { ⌜ (1 ≤ v) × (v < 12) ⌝ }
     ensures { λ m. ⌜ RestOfHalf v m ⌝ }
 {
-    if v < 8 {
-        return 4094 - (1u16 << v);
+    if v < Value::BLACK1_ROW {
+        return Value::EVERY - (1u16 << v);
     }
-    if v < 10 {
-        return 1022 - (1u16 << v);
+    if v < Value::BLACK1_COL {
+        return Value::ROW_HALF - (1u16 << v);
     }
-    3326 - (1u16 << v)
+    Value::COL_HALF - (1u16 << v)
 }
 
 // Sets the cell of row r and column c to v.

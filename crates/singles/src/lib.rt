@@ -6,6 +6,7 @@ use set_cell::set_cell;
 use slab::Slab;
 use slab::clear_mask;
 use slab::lower;
+use value::Value;
 ghost use mathlib.Core.Path.{_≡_};
 ghost use Prim.Native.Nat.{_<_};
 ghost use Rattle.singles.specs.Handling.{HalfAsk, HalfDone, SingletonAsk, SingletonDone, FindAsk, PlaceFound, PlacesAsk, PlacesDone, HiddenAsk, HiddenDone, blackOf, BlacksAsk, BlacksDone, ConsistencyAsk, ConsistencyDone};
@@ -31,8 +32,22 @@ pub fn update_singleton(st: &mut [u16], n: usize, r: usize, c: usize, v: usize)
     ensures { λ _. ⌜ SingletonDone n (now (st .entry)) (now (st .exit)) r c v ⌝ }
 {
     let cell = r * 9 + c;
-    update_half(st, n, in_row(v), Slab::ROW_HALF + cell, cell, 1022);
-    update_half(st, n, in_column(v), Slab::COL_HALF + cell, cell, 3326);
+    update_half(
+        st,
+        n,
+        in_row(v),
+        Slab::ROW_HALF + cell,
+        cell,
+        Value::ROW_HALF,
+    );
+    update_half(
+        st,
+        n,
+        in_column(v),
+        Slab::COL_HALF + cell,
+        cell,
+        Value::COL_HALF,
+    );
 }
 
 // The first place of a line that has the candidate v, or n.
@@ -120,6 +135,20 @@ pub fn update_black_consistency(st: &mut [u16], n: usize, r: usize, c: usize, v:
     ensures { λ _. ⌜ ConsistencyDone n (now (st .entry)) (now (st .exit)) r c v ⌝ }
 {
     let cell = r * 9 + c;
-    update_blacks(st, n, is_black(v, 8), Slab::ROW_BLACKS + cell, cell, 3072);
-    update_blacks(st, n, is_black(v, 10), Slab::COL_BLACKS + cell, cell, 768);
+    update_blacks(
+        st,
+        n,
+        is_black(v, Value::BLACK1_ROW),
+        Slab::ROW_BLACKS + cell,
+        cell,
+        Value::COL_BLACKS,
+    );
+    update_blacks(
+        st,
+        n,
+        is_black(v, Value::BLACK1_COL),
+        Slab::COL_BLACKS + cell,
+        cell,
+        Value::ROW_BLACKS,
+    );
 }

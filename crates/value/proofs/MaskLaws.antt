@@ -9,7 +9,6 @@ use Rattle.tally.specs.Tally.{span, sum, all}
 use Rattle.rules.specs.Grid.{digits}
 use Rattle.rules.proofs.SizeLaws.{at-size}
 use Rattle.rules.specs.Size.{Size}
-use Rattle.rules.specs.Mark.{leftBlack, upperBlack}
 use Rattle.table.specs.Table.{half, everyValue}
 use Rattle.value.specs.Mask.{maskOf}
 
@@ -28,20 +27,9 @@ pub digits-two : (n : ℕ) → Size n → 2 ≤ 2 ^ (n - 1)
 unfolding span all
 digits-two n s = let e = by-size (λ n. 2 - 2 ^ (n - 1)) (λ n. 0) refl n s in omega arith
 
-pub row-mask : (n : ℕ) → Size n → maskOf (digits n) + 768 ≡ maskOf (half n leftBlack)
-unfolding maskOf half digits span sum all
-row-mask = by-size (λ n. maskOf (digits n) + 768) (λ n. maskOf (half n leftBlack)) refl
-
-pub column-mask : (n : ℕ) → Size n → maskOf (digits n) + 3072 ≡ maskOf (half n upperBlack)
-unfolding maskOf half digits span sum all
-column-mask = by-size (λ n. maskOf (digits n) + 3072) (λ n. maskOf (half n upperBlack)) refl
-
-pub every-mask : (n : ℕ) → Size n → maskOf (half n leftBlack) + 3072 ≡ maskOf (everyValue n)
+pub every-mask : (n : ℕ) → Size n → maskOf (digits n) + 768 + 3072 ≡ maskOf (everyValue n)
 unfolding maskOf half everyValue digits span sum all
-every-mask = by-size (λ n. maskOf (half n leftBlack) + 3072) (λ n. maskOf (everyValue n)) refl
+every-mask = by-size (λ n. maskOf (digits n) + 768 + 3072) (λ n. maskOf (everyValue n)) refl
 
 pub digits-most : (n : ℕ) → Size n → maskOf (digits n) ≤ 254
 digits-most n s = omega (arith, digits-mask n s, digits-small n s)
-
-pub row-most : (n : ℕ) → Size n → maskOf (half n leftBlack) ≤ 1022
-row-most n s = omega (arith, row-mask n s, digits-most n s)

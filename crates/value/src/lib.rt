@@ -4,8 +4,7 @@ ghost use mathlib.Core.Path.{_≡_};
 ghost use Rattle.rules.specs.Grid.{digits};
 ghost use Rattle.rules.specs.Check.{named};
 ghost use Rattle.rules.specs.Size.{Size};
-ghost use Rattle.rules.specs.Mark.{leftBlack, upperBlack};
-ghost use Rattle.table.specs.Table.{half, everyValue};
+ghost use Rattle.table.specs.Table.{everyValue};
 ghost use Rattle.value.specs.Mask.{maskOf};
 
 pub struct Value {
@@ -25,9 +24,19 @@ impl Value {
 
     pub const BLACK2_COL: usize = 11;
 
+    // Their masks, and that of the digits of size 9, which are bits 1 to 7.
     pub const ROW_BLACKS: u16 = 768;
 
     pub const COL_BLACKS: u16 = 3072;
+
+    pub const DIGITS: u16 = 254;
+
+    // What the row half, the column half and the whole cell have at size 9; at a smaller size no cell has the other digits.
+    pub const ROW_HALF: u16 = Value::DIGITS + Value::ROW_BLACKS;
+
+    pub const COL_HALF: u16 = Value::DIGITS + Value::COL_BLACKS;
+
+    pub const EVERY: u16 = Value::ROW_HALF + Value::COL_BLACKS;
 
     // A mark may name it at size n: a digit, or a black.
     pub fn is_named(self, n: usize) -> bool
@@ -55,27 +64,11 @@ impl Value {
         (1u16 << (n - 1)) - 2
     }
 
-    // The digits and the blacks of the row.
-    pub fn row_half(n: usize) -> u16
-        requires { ⌜ Size n ⌝ }
-        ensures { λ r. ⌜ r ≡ maskOf (half n leftBlack) ⌝ }
-    {
-        Value::all_digits(n) + Value::ROW_BLACKS
-    }
-
-    // The digits and the blacks of the column.
-    pub fn col_half(n: usize) -> u16
-        requires { ⌜ Size n ⌝ }
-        ensures { λ r. ⌜ r ≡ maskOf (half n upperBlack) ⌝ }
-    {
-        Value::all_digits(n) + Value::COL_BLACKS
-    }
-
     // Every candidate of a cell.
     pub fn full_cell(n: usize) -> u16
         requires { ⌜ Size n ⌝ }
         ensures { λ r. ⌜ r ≡ maskOf (everyValue n) ⌝ }
     {
-        Value::row_half(n) + Value::COL_BLACKS
+        Value::all_digits(n) + Value::ROW_BLACKS + Value::COL_BLACKS
     }
 }

@@ -46,7 +46,7 @@ fn read_cell(st: &[u16], n: usize, r: usize, c: usize) -> u8
     requires { ⌜ WriteCellAsk n (now st) r c ⌝ }
     ensures { λ d. ⌜ d ≡ cellByte n (now (st .entry)) r c ⌝ }
 {
-    let digits = st[r * 9 + c] & 254;
+    let digits = st[r * 9 + c] & Value::DIGITS;
     if digits == 0 {
         return Value::BLACK;
     }
