@@ -84,7 +84,7 @@ fn on_side(n: usize, outside: bool, end: usize) -> bool
 }
 
 // The arrangements of subset s, which has len digits, from each start of one side.
-fn open_starts(
+fn list_starts(
     st: &mut [u16],
     words: &[u32],
     n: usize,
@@ -107,7 +107,7 @@ fn open_starts(
 }
 
 // The arrangements of one side with the subsets from .. to.
-fn open_subsets(
+fn list_subsets(
     st: &mut [u16],
     words: &[u32],
     n: usize,
@@ -126,14 +126,14 @@ fn open_subsets(
     while s < to {
         let x = subsets[s];
         if x % 256 < top {
-            open_starts(st, words, n, line, first, outside, s, wide(x / 8192));
+            list_starts(st, words, n, line, first, outside, s, wide(x / 8192));
         }
         s += 1;
     }
 }
 
 // The arrangements of one side whose digits have the sum that is wanted.
-fn open_side(
+fn list_side(
     st: &mut [u16],
     words: &[u32],
     n: usize,
@@ -145,7 +145,7 @@ fn open_side(
     requires { ⌜ AddAsk n line first (now words) (now st) (sideOf n outside want) × (want < 29) ⌝ }
     ensures { λ _. ⌜ Added n line (now (st .entry)) (now (st .exit)) (sideOf n outside want) ⌝ }
 {
-    open_subsets(
+    list_subsets(
         st,
         words,
         n,
@@ -158,32 +158,32 @@ fn open_side(
 }
 
 // The arrangements of a line with a target: the inside ones have its sum, the outside ones leave it.
-fn open_line(st: &mut [u16], words: &[u32], n: usize, line: usize, first: usize, target: usize)
+fn list_line(st: &mut [u16], words: &[u32], n: usize, line: usize, first: usize, target: usize)
     requires { ⌜ AddAsk n line first (now words) (now st) (numbersFor n target) × (target ≤ maxTarget n) ⌝ }
     ensures { λ _. ⌜ Added n line (now (st .entry)) (now (st .exit)) (numbersFor n target) ⌝ }
 {
     let other = max_target(n) - target;
-    open_side(st, words, n, line, first, false, target);
-    open_side(st, words, n, line, first, true, other);
+    list_side(st, words, n, line, first, false, target);
+    list_side(st, words, n, line, first, true, other);
 }
 
 // Each of n lines, the first of which has the number from, lists the arrangements of its target.
-fn open_lines(st: &mut [u16], words: &[u32], n: usize, from: usize, first: usize, targets: &[u8])
+fn list_lines(st: &mut [u16], words: &[u32], n: usize, from: usize, first: usize, targets: &[u8])
     requires { ⌜ LinesAsk n from first (now words) (now targets) (now st) ⌝ }
     ensures { λ _. ⌜ LinesTo n from n (now (targets .entry)) (now (st .entry)) (now (st .exit)) ⌝ }
 {
     let mut i = 0;
     while i < n {
-        open_line(st, words, n, from + i, first, puzzle::wide(targets[i]));
+        list_line(st, words, n, from + i, first, puzzle::wide(targets[i]));
         i += 1;
     }
 }
 
 // Every line lists the arrangements of its target: the rows, then the columns.
-pub fn open_arrangements(st: &mut [u16], words: &[u32], n: usize, rows: &[u8], columns: &[u8])
+pub fn list_arrangements(st: &mut [u16], words: &[u32], n: usize, rows: &[u8], columns: &[u8])
     requires { ⌜ OpenAsk n (now words) (now rows) (now columns) (now st) ⌝ }
     ensures { λ _. ⌜ LinesListed n (now (rows .entry)) (now (columns .entry)) (now (st .entry)) (now (st .exit)) ⌝ }
 {
-    open_lines(st, words, n, 0, Value::BLACK1_ROW, rows);
-    open_lines(st, words, n, 9, Value::BLACK1_COL, columns);
+    list_lines(st, words, n, 0, Value::BLACK1_ROW, rows);
+    list_lines(st, words, n, 9, Value::BLACK1_COL, columns);
 }

@@ -1,5 +1,5 @@
 // Opening: every line lists its arrangements, then the candidates without support are struck (in the Rust: seed_queue).
-use listing::open_arrangements;
+use listing::list_arrangements;
 use slab::Slab;
 use slab::clear_mask;
 use value::Value;
@@ -71,6 +71,6 @@ pub fn open(st: &mut [u16], words: &[u32], n: usize, rows: &[u8], columns: &[u8]
     requires { ⌜ OpenAsk n (now words) (now rows) (now columns) (now st) ⌝ }
     ensures { λ _. ⌜ Opened n (now (rows .entry)) (now (columns .entry)) (now (st .entry)) (now (st .exit)) ⌝ }
 {
-    open_arrangements(st, words, n, rows, columns);
+    list_arrangements(st, words, n, rows, columns);
     seed_queue(st, n);
 }

@@ -1,4 +1,4 @@
--- `listing::open_subsets` meets its contract. Assumes nothing.
+-- `listing::list_subsets` meets its contract. Assumes nothing.
 use Rattle.listing.proofs.AddLaws.{adding-start, side-ask, side-next, side-skip, side-end}
 use Rattle.listing.specs.Listing.{Adding}
 use Rattle.listing.specs.Numbers.{sideFrom}
@@ -6,8 +6,8 @@ use Rattle.words.specs.Word.{subset, subsetTable}
 use mathlib.Core.Logic.{⊎-elim}
 use Prim.Native.Nat.{_-_}
 use borrow.Author.Needs.{needs}
-use Rattle.listing.proofs.open_subsets.Statement.{statement}
-use Rattle.listing.proofs.open_subsets.Tie as tie
+use Rattle.listing.proofs.list_subsets.Statement.{statement}
+use Rattle.listing.proofs.list_subsets.Tie as tie
 
 abbrev Inv-loop : tie.InvT-loop
 Inv-loop st₀ words n line first outside from to top subsets s₀ st s = Adding n line first words st₀ st (sideFrom n outside s to) (sideFrom n outside from to)
@@ -36,9 +36,9 @@ array-read-x c = search needs
 wide-requires : tie.Need-wide-requires Inv-loop μ-loop
 wide-requires c κs = search needs
 
-open-starts-requires : tie.Need-open-starts-requires Inv-loop μ-loop
+list-starts-requires : tie.Need-list-starts-requires Inv-loop μ-loop
 unfolding subset subsetTable
-open-starts-requires c κs =
+list-starts-requires c κs =
     let b = c .before .before .before in
     let a = b .before in
     side-ask _ _ _ (a .loop .inv) (b .loop-test .taken) (a .before .before .before .pre .1) (c .before .before .if1 .taken) _ (c .wide .ensures)
@@ -64,8 +64,8 @@ same-length c = search needs
 returns : tie.Need-returns Inv-loop μ-loop
 returns c = side-end _ _ _ (c .before .loop .inv) (c .loop-test .left)
 
-pub open-subsets-spec : {M : Type 1} → statement M
-open-subsets-spec =
+pub list-subsets-spec : {M : Type 1} → statement M
+list-subsets-spec =
     tie.close
     (tie.spec
     Inv-loop
@@ -77,7 +77,7 @@ open-subsets-spec =
     mul-x
     array-read-x
     wide-requires
-    open-starts-requires
+    list-starts-requires
     add-s
     loop-less
     loop-again

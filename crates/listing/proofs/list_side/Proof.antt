@@ -1,8 +1,8 @@
--- `listing::open_side` meets its contract. Assumes nothing.
+-- `listing::list_side` meets its contract. Assumes nothing.
 use Rattle.listing.proofs.AddLaws.{sum-ask, sum-added}
 use borrow.Author.Needs.{needs}
-use Rattle.listing.proofs.open_side.Statement.{statement}
-use Rattle.listing.proofs.open_side.Tie as tie
+use Rattle.listing.proofs.list_side.Statement.{statement}
+use Rattle.listing.proofs.list_side.Tie as tie
 
 from-sum-requires : tie.Need-from-sum-requires
 from-sum-requires c κs = search needs
@@ -13,8 +13,8 @@ add-from-sum c = search needs
 from-sum-requires-2 : tie.Need-from-sum-requires-2
 from-sum-requires-2 c κs = search needs
 
-open-subsets-requires : tie.Need-open-subsets-requires
-open-subsets-requires c κs =
+list-subsets-requires : tie.Need-list-subsets-requires
+list-subsets-requires c κs =
     let b = c .before in
     sum-ask _ _ _ _ (b .from-sum .ensures) (c .from-sum2 .ensures) (b .before .before .before .before .pre)
 
@@ -25,7 +25,7 @@ returns : tie.Need-returns
 returns c =
     let d = c .before .before in
     let b = d .before in
-    sum-added _ _ _ _ (b .before .from-sum .ensures) (b .from-sum2 .ensures) (d .open-subsets .ensures)
+    sum-added _ _ _ _ (b .before .from-sum .ensures) (b .from-sum2 .ensures) (d .list-subsets .ensures)
 
-pub open-side-spec : {M : Type 1} → statement M
-open-side-spec = tie.close (tie.spec from-sum-requires add-from-sum from-sum-requires-2 open-subsets-requires same-length returns)
+pub list-side-spec : {M : Type 1} → statement M
+list-side-spec = tie.close (tie.spec from-sum-requires add-from-sum from-sum-requires-2 list-subsets-requires same-length returns)

@@ -1,12 +1,12 @@
--- `listing::open_starts` meets its contract. Assumes nothing.
+-- `listing::list_starts` meets its contract. Assumes nothing.
 use Rattle.listing.proofs.AddLaws.{adding-start, starts-ask, starts-next, starts-skip, starts-end}
 use Rattle.listing.specs.Listing.{Adding}
 use Rattle.listing.specs.Numbers.{startsFrom}
 use mathlib.Core.Logic.{⊎-elim}
 use Prim.Native.Nat.{_-_}
 use borrow.Author.Needs.{needs}
-use Rattle.listing.proofs.open_starts.Statement.{statement}
-use Rattle.listing.proofs.open_starts.Tie as tie
+use Rattle.listing.proofs.list_starts.Statement.{statement}
+use Rattle.listing.proofs.list_starts.Tie as tie
 
 abbrev Inv-loop : tie.InvT-loop
 Inv-loop st₀ words n line first outside s len start₀ st start =
@@ -60,8 +60,8 @@ same-length c = search needs
 returns : tie.Need-returns Inv-loop μ-loop
 returns c = starts-end _ _ _ _ (c .before .loop .inv) (c .loop-test .left)
 
-pub open-starts-spec : {M : Type 1} → statement M
-open-starts-spec =
+pub list-starts-spec : {M : Type 1} → statement M
+list-starts-spec =
     tie.close
     (tie.spec
     Inv-loop
