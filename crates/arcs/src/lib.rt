@@ -233,8 +233,8 @@ fn sweep_black(
     len
 }
 
-// A digit is struck at place p of a line: its dead arrangements leave. Without support no live arrangement has the digit there.
-fn update_digit(
+// The sweep for the value v that is struck at place p. Gives how many arrangements are left.
+fn sweep(
     st: &mut [u16],
     words: &[u32],
     n: usize,
@@ -244,18 +244,18 @@ fn update_digit(
     first: usize,
     p: usize,
     v: usize,
-)
-    requires { ⌜ SweepAsk n line start stride first p v (now words) (now st) × (v < 8) ⌝ }
-    ensures { λ _. ⌜ LineDone n line p v (now (st .entry)) (now (st .exit)) ⌝ }
+) -> usize
+    requires { ⌜ SweepAsk n line start stride first p v (now words) (now st) ⌝ }
+    ensures { λ r. ⌜ Swept n line p v (now (st .entry)) (now (st .exit)) r ⌝ }
 {
-    if st[Slab::SUPPORT + (line * 9 + p) * 16 + v] != 0 {
-        let len = sweep_digit(st, words, n, line, start, stride, first, p, v);
-        st[Slab::LENGTHS + line] = len as u16;
+    if v < Value::BLACK1_ROW {
+        return sweep_digit(st, words, n, line, start, stride, first, p, v);
     }
+    sweep_black(st, words, n, line, start, stride, first, p, v)
 }
 
-// A black is struck at place p of its line.
-fn update_black(
+// The value v is struck at place p of a line: its dead arrangements leave. Without support no live arrangement has the value there.
+fn update_line(
     st: &mut [u16],
     words: &[u32],
     n: usize,
@@ -266,11 +266,11 @@ fn update_black(
     p: usize,
     v: usize,
 )
-    requires { ⌜ SweepAsk n line start stride first p v (now words) (now st) × (8 ≤ v) ⌝ }
+    requires { ⌜ SweepAsk n line start stride first p v (now words) (now st) ⌝ }
     ensures { λ _. ⌜ LineDone n line p v (now (st .entry)) (now (st .exit)) ⌝ }
 {
     if st[Slab::SUPPORT + (line * 9 + p) * 16 + v] != 0 {
-        let len = sweep_black(st, words, n, line, start, stride, first, p, v);
+        let len = sweep(st, words, n, line, start, stride, first, p, v);
         st[Slab::LENGTHS + line] = len as u16;
     }
 }
@@ -281,13 +281,13 @@ pub fn update_arc(st: &mut [u16], words: &[u32], n: usize, r: usize, c: usize, v
     ensures { λ _. ⌜ ArcDone n (now (st .entry)) (now (st .exit)) r c v ⌝ }
 {
     if v < Value::BLACK1_ROW {
-        update_digit(st, words, n, r, r * 9, 1, Value::BLACK1_ROW, c, v);
-        update_digit(st, words, n, 9 + c, c, 9, Value::BLACK1_COL, r, v);
+        update_line(st, words, n, r, r * 9, 1, Value::BLACK1_ROW, c, v);
+        update_line(st, words, n, 9 + c, c, 9, Value::BLACK1_COL, r, v);
         return;
     }
     if v < Value::BLACK1_COL {
-        update_black(st, words, n, r, r * 9, 1, Value::BLACK1_ROW, c, v);
+        update_line(st, words, n, r, r * 9, 1, Value::BLACK1_ROW, c, v);
         return;
     }
-    update_black(st, words, n, 9 + c, c, 9, Value::BLACK1_COL, r, v);
+    update_line(st, words, n, 9 + c, c, 9, Value::BLACK1_COL, r, v);
 }

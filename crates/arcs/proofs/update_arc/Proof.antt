@@ -6,20 +6,20 @@ use borrow.Author.Needs.{needs}
 use Rattle.arcs.proofs.update_arc.Statement.{statement}
 use Rattle.arcs.proofs.update_arc.Tie as tie
 
-mul-update-digit : tie.Need-mul-update-digit
-mul-update-digit c = search needs
+mul-update-line : tie.Need-mul-update-line
+mul-update-line c = search needs
 
-update-digit-requires : tie.Need-update-digit-requires
-update-digit-requires c κs = (arc-row (c .before .before .before .before .pre) (omega (arith, c .before .if1 .taken)), c .before .if1 .taken)
+update-line-requires : tie.Need-update-line-requires
+update-line-requires c κs = arc-row (c .before .before .before .before .pre) (omega (arith, c .before .if1 .taken))
 
-add-update-digit : tie.Need-add-update-digit
-add-update-digit c = search needs
+add-update-line : tie.Need-add-update-line
+add-update-line c = search needs
 
-update-digit-requires-2 : tie.Need-update-digit-requires-2
-update-digit-requires-2 c κs =
+update-line-requires-2 : tie.Need-update-line-requires-2
+update-line-requires-2 c κs =
     let b₄ = c .before .before .before .before in
     let b₈ = b₄ .before .before .before .before in
-    (arc-column (arc-next (b₈ .pre) (c .before .before .before .update-digit .ensures)) (inl (b₄ .before .if1 .taken)), b₄ .before .if1 .taken)
+    arc-column (arc-next (b₈ .pre) (c .before .before .before .update-line .ensures)) (inl (b₄ .before .if1 .taken))
 
 same-length : tie.Need-same-length
 same-length c = search needs
@@ -28,13 +28,13 @@ returns : tie.Need-returns
 returns c =
     let b₄ = c .before .before .before .before in
     let b₈ = b₄ .before .before .before .before in
-    arc-digit (b₈ .before .before .before .pre) (b₄ .before .before .update-digit .ensures) (c .before .before .update-digit2 .ensures) (b₈ .if1 .taken)
+    arc-digit (b₈ .before .before .before .pre) (b₄ .before .before .update-line .ensures) (c .before .before .update-line2 .ensures) (b₈ .if1 .taken)
 
-mul-update-black : tie.Need-mul-update-black
-mul-update-black c = search needs
+mul-update-line-2 : tie.Need-mul-update-line-2
+mul-update-line-2 c = search needs
 
-update-black-requires : tie.Need-update-black-requires
-update-black-requires c κs = (arc-row (c .before .before .before .before .before .pre) (c .before .if2 .taken), c .before .before .if1 .left)
+update-line-requires-3 : tie.Need-update-line-requires-3
+update-line-requires-3 c κs = arc-row (c .before .before .before .before .before .pre) (c .before .if2 .taken)
 
 same-length-2 : tie.Need-same-length-2
 same-length-2 c = search needs
@@ -43,13 +43,13 @@ returns-2 : tie.Need-returns-2
 returns-2 c =
     let b₄ = c .before .before .before .before in
     let b₈ = b₄ .before .before .before .before in
-    arc-row-black (b₈ .pre) (b₄ .before .if1 .left) (b₄ .if2 .taken) (c .before .before .update-black .ensures)
+    arc-row-black (b₈ .pre) (b₄ .before .if1 .left) (b₄ .if2 .taken) (c .before .before .update-line3 .ensures)
 
-add-update-black : tie.Need-add-update-black
-add-update-black c = search needs
+add-update-line-2 : tie.Need-add-update-line-2
+add-update-line-2 c = search needs
 
-update-black-requires-2 : tie.Need-update-black-requires-2
-update-black-requires-2 c κs = (arc-column (c .before .before .before .before .before .pre) (inr (c .before .if2 .left)), c .before .before .if1 .left)
+update-line-requires-4 : tie.Need-update-line-requires-4
+update-line-requires-4 c κs = arc-column (c .before .before .before .before .before .pre) (inr (c .before .if2 .left))
 
 same-length-3 : tie.Need-same-length-3
 same-length-3 c = search needs
@@ -58,23 +58,23 @@ returns-3 : tie.Need-returns-3
 returns-3 c =
     let b₄ = c .before .before .before .before in
     let b₈ = b₄ .before .before .before .before in
-    arc-column-black (b₈ .pre) (b₄ .if2 .left) (c .before .before .update-black2 .ensures)
+    arc-column-black (b₈ .pre) (b₄ .if2 .left) (c .before .before .update-line4 .ensures)
 
 pub update-arc-spec : {M : Type 1} → statement M
 update-arc-spec =
     tie.close
     (tie.spec
-    mul-update-digit
-    update-digit-requires
-    add-update-digit
-    update-digit-requires-2
+    mul-update-line
+    update-line-requires
+    add-update-line
+    update-line-requires-2
     same-length
     returns
-    mul-update-black
-    update-black-requires
+    mul-update-line-2
+    update-line-requires-3
     same-length-2
     returns-2
-    add-update-black
-    update-black-requires-2
+    add-update-line-2
+    update-line-requires-4
     same-length-3
     returns-3)

@@ -1,8 +1,8 @@
--- `arcs::update_black` meets its contract. Assumes nothing.
+-- `arcs::update_line` meets its contract. Assumes nothing.
 use Rattle.arcs.proofs.SweepLaws.{line-swept, line-skipped}
 use borrow.Author.Needs.{needs}
-use Rattle.arcs.proofs.update_black.Statement.{statement}
-use Rattle.arcs.proofs.update_black.Tie as tie
+use Rattle.arcs.proofs.update_line.Statement.{statement}
+use Rattle.arcs.proofs.update_line.Tie as tie
 
 mul-if1 : tie.Need-mul-if1
 mul-if1 c = search needs
@@ -25,8 +25,8 @@ mul-if1-3 c = search needs
 slice-read-if1 : tie.Need-slice-read-if1
 slice-read-if1 c = search needs
 
-sweep-black-requires : tie.Need-sweep-black-requires
-sweep-black-requires c κs = search needs
+sweep-requires : tie.Need-sweep-requires
+sweep-requires c κs = search needs
 
 cast-st : tie.Need-cast-st
 cast-st c = search needs
@@ -44,13 +44,13 @@ same-length : tie.Need-same-length
 same-length c = search needs
 
 returns : tie.Need-returns
-returns c = line-swept (c .before .before .before .before .before .before .before .before .pre .0) (c .before .before .sweep-black .ensures)
+returns c = line-swept (c .before .before .before .before .before .before .before .before .pre) (c .before .before .sweep .ensures)
 
 returns-2 : tie.Need-returns-2
-returns-2 c = line-skipped (c .before .before .before .before .pre .0) (c .if1 .left)
+returns-2 c = line-skipped (c .before .before .before .before .pre) (c .if1 .left)
 
-pub update-black-spec : {M : Type 1} → statement M
-update-black-spec =
+pub update-line-spec : {M : Type 1} → statement M
+update-line-spec =
     tie.close
     (tie.spec
     mul-if1
@@ -60,7 +60,7 @@ update-black-spec =
     add-if1-3
     mul-if1-3
     slice-read-if1
-    sweep-black-requires
+    sweep-requires
     cast-st
     add-st
     mul-st
