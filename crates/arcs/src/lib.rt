@@ -10,6 +10,7 @@ ghost use Rattle.arcs.specs.Sweep.{RemoveAsk, Removed, SweepAsk, Swept, 
 ghost use Rattle.arcs.specs.Sunk.{Sunk, single, masked, DropAsk, DigitsAsk};
 use slab::Slab;
 use value::Value;
+use value::wide;
 
 // A support falls; without support the candidate is struck.
 fn drop_support(st: &mut [u16], place: usize, cell: usize, v: usize)
@@ -102,7 +103,7 @@ fn word_at(st: &[u16], words: &[u32], line: usize, i: usize) -> u32
     requires { ⌜ (line < 18) × (i < 78) × (length (now st) ≡ 5599) × (live (now st) line i < length (now words)) ⌝ }
     ensures { λ r. ⌜ r ≡ getD (now (words .entry)) (live (now (st .entry)) line i) 0 ⌝ }
 {
-    words[slab::wide(st[Slab::LIVE + line * 78 + i])]
+    words[wide(st[Slab::LIVE + line * 78 + i])]
 }
 
 // The bits of a digit and of an inner place.
@@ -181,7 +182,7 @@ fn sweep_digit(
     let test = digit_test(v, p);
     let mut have = having(st, n, start, stride, v);
     let mut i = 0;
-    let mut len = slab::wide(st[Slab::LENGTHS + line]);
+    let mut len = wide(st[Slab::LENGTHS + line]);
     while i < len {
         let w = word_at(st, words, line, i);
         if keeps(w, test, have, st[cell]) {
@@ -220,7 +221,7 @@ fn sweep_black(
 {
     let shift = black_shift(first, v);
     let mut i = 0;
-    let mut len = slab::wide(st[Slab::LENGTHS + line]);
+    let mut len = wide(st[Slab::LENGTHS + line]);
     while i < len {
         let w = word_at(st, words, line, i);
         if ((w >> shift) % 16) as usize == p {

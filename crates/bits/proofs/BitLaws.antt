@@ -83,7 +83,7 @@ bit-pow-other (suc k) zero n = bit-suc k 1 ∙ bit-none k
 bit-pow-other (suc k) (suc j) n = bit-suc k _ ∙ ap (bit k) (rw pow-suc (omega arith)) ∙ bit-pow-other k j (λ e. n (ap suc e))
 
 -- ---- counts
-ones-0 : ones 0 ≡ 0
+pub ones-0 : ones 0 ≡ 0
 unfolding ones
 ones-0 = refl
 

@@ -43,7 +43,7 @@ use Rattle.written.proofs.MaskLaws.{published-table}
 use Rattle.prepare.specs.Prepared.{Marked}
 use Rattle.engine.specs.Answer.{SolveAsk}
 use Rattle.engine.proofs.CountLaws.{count-marks, count-left}
-use Rattle.engine.proofs.SolveLaws.{solve-count, solve-room, solve-size}
+use Rattle.engine.proofs.SolveLaws.{solve-count, solve-room, solve-small}
 use Rattle.candidates.specs.declared.Outcome.the-variants.{Refused, Contradicted, Written}
 use Rattle.candidates.specs.Remaining.{Remaining, WrittenTable, TableGiven, Tabled}
 use Rattle.candidates.proofs.SameClosed.{closed-same}
@@ -122,9 +122,6 @@ module _ (p : Puzzle) (t : Table) (small : p .size ≤ 9) (closed : Closed p t) 
 -- ---- the table at rest
 
 module _ {p : Puzzle} {ms : List ℕ} {len : ℕ} (a : SolveAsk p ms len) where
-  small : p .size ≤ 9
-  small = solve-size a .high
-
   mark-in : (m : ℕ) → List·Memᴰ m ms → AcceptedMark (p .size) m
   mark-in = marks.accepted (p .size) ms (count-marks (solve-count a))
 
@@ -132,18 +129,18 @@ module _ {p : Puzzle} {ms : List ℕ} {len : ℕ} (a : SolveAsk p ms len) where
     -- the state's table is the whole one after the marks
     marked-same : SameGrids p (markedAll (tableIn (m .before)) ms) (tableIn l)
     marked-same =
-        same-ext p small (λ r c v hr hc k. sym (m .table r c v (omega (arith, small)) (omega (arith, small)) (value-small (p .size) v small k)))
+        same-ext p (solve-small a) (λ r c v hr hc k. sym (m .table r c v (omega (arith, solve-small a)) (omega (arith, solve-small a)) (value-small (p .size) v (solve-small a) k)))
 
     marked-at : (x v : ℕ) → List·Memᴰ x ms → IsValue (p .size) v → markedAll (tableIn (m .before)) ms (markRow x) (markColumn x) v ≡ false →
         tableIn l (markRow x) (markColumn x) v ≡ false
     marked-at x v k q e =
         let w = mark-in x k in
-        m .table (markRow x) (markColumn x) v (omega (arith, small, w .row-in)) (omega (arith, small, w .column-in)) (value-small (p .size) v small q) ∙ e
+        m .table (markRow x) (markColumn x) v (omega (arith, solve-small a, w .row-in)) (omega (arith, solve-small a, w .column-in)) (value-small (p .size) v (solve-small a) q) ∙ e
 
     pub left-none : {l′ : List ℕ} {b : Bool} → Propagated (p .size) l l′ b → b ≡ false → number p ms ≡ 0
     left-none d e =
         let x = d .emptied e in
-        sym (count-left (solve-count a) m) ∙ same-left (d .sound p refl (m .kept)) ∙ empty-left p _ small (x .row) (x .column) (x .row-in) (x .column-in) (x .empty)
+        sym (count-left (solve-count a) m) ∙ same-left (d .sound p refl (m .kept)) ∙ empty-left p _ (solve-small a) (x .row) (x .column) (x .row-in) (x .column-in) (x .empty)
 
     module _ {l′ table : List ℕ} (d : Propagated (p .size) l l′ true) (w : PublishedTable (p .size) l′ table) where
       t : Table
@@ -159,15 +156,15 @@ module _ {p : Puzzle} {ms : List ℕ} {len : ℕ} (a : SolveAsk p ms len) where
       unfolding solves
       fits-grids g s =
           let k : GridOf p g = record { filled = s .filled; kept = and-left _ _ (s .right) } in
-          let all-same = same-trans (marked-same) (same-trans (d .sound p refl (m .kept)) (same-ext p small (λ r c v hr hc q. sym (same r c v hr hc q)))) in
-          sym (all-same .same g k) ∙ marks-fits p small (tableIn (m .before)) ms mark-in g k ∙ and-both (m .whole .whole g k) (and-right (keeps p g) _ (s .right))
+          let all-same = same-trans (marked-same) (same-trans (d .sound p refl (m .kept)) (same-ext p (solve-small a) (λ r c v hr hc q. sym (same r c v hr hc q)))) in
+          sym (all-same .same g k) ∙ marks-fits p (solve-small a) (tableIn (m .before)) ms mark-in g k ∙ and-both (m .whole .whole g k) (and-right (keeps p g) _ (s .right))
 
       gone : (x v : ℕ) → List·Memᴰ x ms → IsValue (p .size) v → markedAll (tableIn (m .before)) ms (markRow x) (markColumn x) v ≡ false →
           t (markRow x) (markColumn x) v ≡ false
       gone x v k q e =
           let i = mark-in x k in
           same (markRow x) (markColumn x) v (i .row-in) (i .column-in) q
-          ∙ false-of _ (λ s. true≢false (sym (table-kept l l′ (d .sub) (markRow x) (markColumn x) v (value-small (p .size) v small q) s) ∙ marked-at x v k q e))
+          ∙ false-of _ (λ s. true≢false (sym (table-kept l l′ (d .sub) (markRow x) (markColumn x) v (value-small (p .size) v (solve-small a) q) s) ∙ marked-at x v k q e))
 
       others-gone : (x v : ℕ) → List·Memᴰ x ms → rejects x ≡ false → IsValue (p .size) v → v ≢ markValue x → sameHalf (markValue x) v ≡ true →
           t (markRow x) (markColumn x) v ≡ false
@@ -194,9 +191,9 @@ module _ {p : Puzzle} {ms : List ℕ} {len : ℕ} (a : SolveAsk p ms len) where
             closed = closed;
             rejected = λ x k e. gone x (markValue x) k (mark-in x k .value-in) (rejected-gone (tableIn (m .before)) k e);
             taken = λ x k e. let i = mark-in x k in
-                alone-there p t small closed (markRow x) (markColumn x) (i .row-in) (i .column-in) (markValue x) (i .value-in)
+                alone-there p t (solve-small a) closed (markRow x) (markColumn x) (i .row-in) (i .column-in) (markValue x) (i .value-in)
                 (some (markRow x) (markColumn x) (i .row-in) (i .column-in)) (λ v q ne h. others-gone x v k e q ne h);
-            alone = λ x v ℓ k e q h ne. others-gone x v k e (half-every (p .size) ℓ v h) ne (same-half (p .size) small ℓ (markValue x) v q h);
+            alone = λ x v ℓ k e q h ne. others-gone x v k e (half-every (p .size) ℓ v h) ne (same-half (p .size) (solve-small a) ℓ (markValue x) v q h);
           }
 
       pub written-table : length table ≡ len → WrittenTable p ms table
@@ -205,7 +202,7 @@ module _ {p : Puzzle} {ms : List ℕ} {len : ℕ} (a : SolveAsk p ms len) where
           record {
             size = e ∙ solve-room a;
             remaining = remaining;
-            plain = λ r c b hr hc q. let u = w .plain r c hr hc b q in (u .0, value-every (p .size) (u .0) small (u .1), u .2);
+            plain = λ r c b hr hc q. let u = w .plain r c hr hc b q in (u .0, value-every (p .size) (u .0) (solve-small a) (u .1), u .2);
           }
 
 -- ---- the answers

@@ -7,11 +7,10 @@ use mathlib.Core.List.{List, List·Memᴰ}
 use native.Mathlib.Omega.{arith}
 use native.Mathlib.Decide.{ℕ-discrete}
 use lib.ListN.{getD}
-use Rattle.tally.proofs.TallyLaws.{test-ext}
+use Rattle.tally.proofs.TallyLaws.{test-ext, or-split}
 use Rattle.rules.specs.Grid.{digits, Line, across, down, index}
 use Rattle.rules.specs.Mark.{leftBlack, rightBlack, upperBlack, lowerBlack}
 use Rattle.table.specs.Table.{places, firstBlack, half}
-use Rattle.line_laws.proofs.Lists.{or-split}
 use Rattle.line_laws.proofs.Half.{digit-range, digit-in}
 use Rattle.bits.proofs.SumLaws.{sum-none, sum-one}
 use Rattle.slab.specs.Slab.{cand, tableIn, tail}
@@ -23,7 +22,7 @@ use Rattle.set_cell.proofs.SetLaws.{value-range, table-yes, yes-table, no-table
 use Rattle.counters.specs.Counters.{IsSet, AllSet, NoBlacks, InGrid, halfValue, halvesBase, placesBase, halves, linePlaces, blacksBase, ownBlack, crossBlack, cellBlacks, HalvesOf, PlacesOf, BlacksOf, Halves, LinePlaces, Blacks}
 use Rattle.counters.proofs.CounterLaws.{ruled-rest}
 use Rattle.counters.proofs.Families.{value-narrow, value-once, value-in, HalfPlace, half-place, fine-halves, fine-places, fine-blacks}
-use Rattle.counters.proofs.Lines.{in-grid, grid-place, place-yes, yes-place, no-place, digit-in-line, half-in, in-half, cell-hit, line-hit, counter-value, counter-used, counter-cell}
+use Rattle.counters.proofs.Lines.{in-grid, grid-place, place-yes, yes-place, no-place, digit-in-line, half-in, in-half, cell-hit, line-hit, counter-value, counter-used, counter-cell, counter-cand}
 use Rattle.table.specs.Lines.{cellOf}
 
 -- No strike waits for these counters.
@@ -84,14 +83,11 @@ module _ {n : ℕ} {l : List ℕ} (ready : Ready n l) where
         let u = ready-valid ready (cellOf ℓ j) v narrow c in
         d (only j (grid-place n ℓ j (omega (arith, high)) h (u .row, u .column)) (yes-place l ℓ j v c)))
 
-    counted : (j : ℕ) → cand l (linePlaces ℓ .cell (index ℓ * 16 + v) j) ((index ℓ * 16 + v) % 16) ≡ cand l (cellOf ℓ j) v
-    counted j = rw (counter-cell ℓ v narrow j, counter-value ℓ v narrow)
-
     single-one : getD l (placesBase ℓ + (index ℓ * 16 + v)) 0 ≡ 1
     single-one =
         ruled-rest (linePlaces ℓ) 1 (AllSet (linePlaces ℓ)) (fine-places ℓ) n high w (index ℓ * 16 + v) used
         ∙ sum-one 0 9 i (λ j. cand l (linePlaces ℓ .cell (index ℓ * 16 + v) j) ((index ℓ * 16 + v) % 16)) (omega arith) (omega (arith, high))
-        (counted i ∙ place-yes l ℓ i v e) (λ k a b d. counted k ∙ elsewhere k (omega arith) d)
+        (counter-cand ℓ v narrow l i ∙ place-yes l ℓ i v e) (λ k a b d. counter-cand ℓ v narrow l k ∙ elsewhere k (omega arith) d)
 
     place-set : IsSet l (cellOf ℓ i) v
     place-set =

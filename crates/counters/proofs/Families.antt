@@ -9,7 +9,7 @@ use native.Mathlib.Decide.{decLt}
 use lib.Dec.{ltb, leb}
 use borrow.Author.Tests.{lt-ltb, le-ltb, le-leb, ltb-true, leb-true}
 use Rattle.rules.specs.Grid.{Line, across, down}
-use Rattle.line_laws.proofs.Lists.{or-split}
+use Rattle.tally.proofs.TallyLaws.{or-split}
 use Rattle.slab.specs.Slab.{tail, Grown}
 use Rattle.slab.proofs.SlabLaws.{cand-lt}
 use Rattle.slab.proofs.StruckLaws.{grown-gone}

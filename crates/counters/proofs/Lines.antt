@@ -8,10 +8,9 @@ use native.Mathlib.Omega.{arith}
 use native.Mathlib.Decide.{ℕ-discrete}
 use lib.Dec.{ltb, leb}
 use borrow.Author.Tests.{lt-ltb, le-leb, ltb-true, leb-true}
-use Rattle.tally.proofs.TallyLaws.{and-both, span-mem}
+use Rattle.tally.proofs.TallyLaws.{and-both, span-mem, or-split}
 use Rattle.rules.specs.Grid.{digits, Line, across, down, index}
 use Rattle.table.specs.Table.{places, firstBlack, half}
-use Rattle.line_laws.proofs.Lists.{or-split}
 use Rattle.line_laws.proofs.Half.{HalfValue, a-digit, a-first, a-second, half-value, digit-in, first-in, second-in}
 use Rattle.table.specs.Lines.{rowOf, columnOf, cellOf}
 use Rattle.slab.specs.Slab.{cand, tableIn}
@@ -129,3 +128,6 @@ module _ (ℓ : Line) (v : ℕ) (hv : v < 16) where
 
   pub counter-cell : (j : ℕ) → linePlaces ℓ .cell (index ℓ * 16 + v) j ≡ cellOf ℓ j
   counter-cell j = rw counter-line (cell-place ℓ j)
+
+  pub counter-cand : (l : List ℕ) (j : ℕ) → cand l (linePlaces ℓ .cell (index ℓ * 16 + v) j) ((index ℓ * 16 + v) % 16) ≡ cand l (cellOf ℓ j) v
+  counter-cand l j = rw (counter-cell j, counter-value)

@@ -94,8 +94,8 @@ module _ {p : Puzzle} {ms : List ℕ} {len : ℕ} (a : SolveAsk p ms len) where
   pub solve-size : Size (p .size)
   solve-size = accepted-size p (count-puzzle solve-count)
 
-  small : p .size ≤ 9
-  small = solve-size .high
+  pub solve-small : p .size ≤ 9
+  solve-small = solve-size .high
 
   pub solve-none : {ws l cells : List ℕ} {ok : Bool} → Prepared p ms ws l ok → ok ≡ false → Found p ms 0 cells cells
   solve-none d e = record { count = count-none solve-count 2 d e; untouched = λ _. refl; written = λ h. absurd (omega arith) }
@@ -105,7 +105,7 @@ module _ {p : Puzzle} {ms : List ℕ} {len : ℕ} (a : SolveAsk p ms len) where
     solve-search = record { propagable = m .propagable; fits = λ _. solve-room }
 
     in-marks : Within (p .size) (tableIn l) (markedAll (tableIn (m .before)) ms)
-    in-marks = record { kept = λ r c v hr hc k e. sym (m .table r c v (omega (arith, small)) (omega (arith, small)) (value-small (p .size) v small k)) ∙ e }
+    in-marks = record { kept = λ r c v hr hc k e. sym (m .table r c v (omega (arith, solve-small)) (omega (arith, solve-small)) (value-small (p .size) v solve-small k)) ∙ e }
 
     pub solve-found : {r : ℕ} {cells cells′ : List ℕ} → Searched (p .size) l 2 true r cells cells′ → Found p ms r cells cells′
     solve-found {r} {cells} {cells′} s =
@@ -113,7 +113,7 @@ module _ {p : Puzzle} {ms : List ℕ} {len : ℕ} (a : SolveAsk p ms len) where
           count = count-found solve-count m s;
           untouched = λ e. s .untouched (inl e);
           written = λ h. let g = s .written refl h p refl (m .kept) in
-              within-solution p small (tableIn (m .before)) ms (marks.accepted (p .size) ms (count-marks solve-count)) in-marks cells′ (g .grid) (g .fit);
+              within-solution p solve-small (tableIn (m .before)) ms (marks.accepted (p .size) ms (count-marks solve-count)) in-marks cells′ (g .grid) (g .fit);
         }
 
 -- ---- the whole call

@@ -10,12 +10,11 @@ use lib.Dec.{eqb, ltb, leb}
 use lib.ListN.{getD}
 use borrow.Author.Tests.{eqb-true, eq-eqb, ne-eqb, ltb-true, lt-ltb, le-leb}
 use Rattle.tally.specs.Tally.{any}
-use Rattle.tally.proofs.TallyLaws.{and-left, and-right, and-both}
+use Rattle.tally.proofs.TallyLaws.{and-left, and-right, and-both, any-in, any-mem}
 use Rattle.rules.specs.Grid.{across, down, Puzzle, target}
 use Rattle.rules.specs.Mark.{has}
 use Rattle.table.specs.Closed.{arrangements}
 use Rattle.table.specs.Table.{everyValue, fits}
-use Rattle.line_laws.proofs.Lists.{any-in, any-mem}
 use Rattle.line_laws.proofs.Half.{digit-range}
 use Rattle.line_laws.specs.Grids.{GridOf}
 use Rattle.soundness.proofs.CellValues.{CellValue, cell-value, digit-value, row-black, column-black, half-every, fits-has}

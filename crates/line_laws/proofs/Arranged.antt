@@ -10,12 +10,12 @@ use lib.Dec.{eqb, ltb, leb}
 use lib.ListN.{length}
 use borrow.Author.Tests.{eqb-true, eq-eqb, ne-eqb, lt-ltb, le-ltb, ltb-true, le-leb, leb-true}
 use Rattle.tally.specs.Tally.{sum, any, span, keep, join}
-use Rattle.tally.proofs.TallyLaws.{and-left, and-right, and-both, span-in, span-mem}
+use Rattle.tally.proofs.TallyLaws.{and-left, and-right, and-both, span-in, span-mem, any-in}
 use Rattle.rules.specs.Grid.{digits, meets}
 use Rattle.table.specs.Closed.{Arrangement, subsets, subsetsWith, fromStarts, insides, outsides, arrangements, place, allows, Live, Covers}
 use Rattle.table.specs.Table.{half}
 use Rattle.table.specs.Lines.{Places}
-use Rattle.line_laws.proofs.Lists.{mem-keep, of-keep, mem-join, of-join, any-in}
+use Rattle.line_laws.proofs.Lists.{mem-keep, of-keep, mem-join, of-join}
 use Rattle.line_laws.proofs.Subsets.{subset-mem}
 use Rattle.line_laws.proofs.Half.{digit-range, digit-in, first-in, second-in}
 

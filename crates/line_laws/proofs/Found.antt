@@ -9,11 +9,11 @@ use lib.Dec.{eqb}
 use lib.ListN.{length, getD, length-append}
 use borrow.Author.Tests.{eqb-true, eq-eqb}
 use Rattle.tally.specs.Tally.{sum, any, count, keep}
-use Rattle.tally.proofs.TallyLaws.{Once}
+use Rattle.tally.proofs.TallyLaws.{Once, any-mem}
 use Rattle.rules.specs.Grid.{digits, lineSum, meets}
 use Rattle.table.specs.Closed.{Arrangement, arrangements, place, allows, Covers}
 use Rattle.table.specs.Table.{own}
-use Rattle.line_laws.proofs.Lists.{mem-keep, of-keep, any-mem, getD-mem, count-mem}
+use Rattle.line_laws.proofs.Lists.{mem-keep, of-keep, getD-mem, count-mem}
 use Rattle.line_laws.proofs.Pigeonhole.{length-each, sum-each}
 use Rattle.line_laws.proofs.Subsets.{digits-once, keep-subset, subset-once}
 use Rattle.line_laws.proofs.Parts.{LawfulLine, Parts, parts, line-sum, sum-all, own-pre, own-first, own-mid, own-second, own-post}

@@ -1,5 +1,5 @@
 -- The lines of a grid that keeps a puzzle, and of one that fits a table: each line and place by itself. Assumes nothing.
-use Prim.Native.Nat.{ℕ, zero, suc, _*_, _/_, _%_, _≤_, _<_}
+use Prim.Native.Nat.{ℕ, _*_, _/_, _%_, _≤_, _<_}
 use mathlib.Core.Path.{_≡_, refl, sym, ap, _∙_, subst}
 use mathlib.Core.Bool.{Bool, true}
 use mathlib.Core.List.{List, map, List·Memᴰ}
@@ -11,7 +11,7 @@ use Rattle.tally.specs.Tally.{all, span}
 use Rattle.tally.proofs.TallyLaws.{and-left, and-right, and-both, span-in, span-mem, map-at}
 use Rattle.tally.proofs.WayLaws.{all-each, way-length}
 use Rattle.rules.specs.Grid.{lawful, lineSum, meets, keepsLine, Puzzle, Line, across, down, index, line, lines, target, cell, row, column}
-use Rattle.rules.proofs.GridLaws.{line-in, all-lines, line-keeps, line-way}
+use Rattle.rules.proofs.GridLaws.{line-in, all-lines, line-keeps, line-way, place-size}
 use Rattle.rules.specs.Mark.{leftBlack}
 use Rattle.table.specs.Table.{Table, places, firstBlack, half, own, fits}
 use Rattle.table.specs.Lines.{Places, rowOf, columnOf}
@@ -68,16 +68,12 @@ module _ (p : Puzzle) (g : List ℕ) (d : GridOf p g) where
   unfolding keepsLine
   line-meets ℓ h = and-right (lawful (p .size) (line (p .size) g ℓ)) _ (line-keeps p g (d .kept) ℓ h)
 
-pos : (n i : ℕ) → i < n * n → 0 < n
-pos zero i h = absurd (omega arith)
-pos (suc n) i h = omega arith
-
 -- Grids with the same cells are equal.
 pub grid-ext : (n : ℕ) (x y : List ℕ) → length x ≡ n * n → length y ≡ n * n → ((r c : ℕ) → r < n → c < n → cell n x r c ≡ cell n y r c) → x ≡ y
 unfolding cell
 grid-ext n x y a b h =
     ext-getD 0 x y (a ∙ sym b)
-    (λ i l. let k : i < n * n = omega arith in let z : 0 < n = pos n i k in
+    (λ i l. let k : i < n * n = omega arith in let z : 0 < n = place-size n i k in
     subst (λ j. getD x j 0 ≡ getD y j 0) (div-add-mod' i n) (h (i / n) (i % n) (div-lt-iff-lt-mul z .1 k) (mod-lt i z)))
 
 -- ---- grids that fit a table

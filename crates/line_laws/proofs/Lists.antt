@@ -1,15 +1,15 @@
 -- Lists: elements that are kept, joined, counted or found at a place, and tests of a span of numbers. Assumes nothing.
 use Prim.Native.Nat.{ℕ, zero, suc, _+_, _≤_, _<_}
 use mathlib.Core.Path.{_≡_, refl, sym, ap, ap₂, _∙_}
-use mathlib.Core.Bool.{Bool, true, false, _||_, cond, true≢false, or-true}
-use mathlib.Core.Logic.{_⊎_, inl, inr, ⊎-elim}
+use mathlib.Core.Bool.{Bool, true, false, cond}
+use mathlib.Core.Logic.{⊎-elim}
 use mathlib.Core.List.{List, [], _∷_, map, List·Memᴰ, List·Memᴰ·head, List·Memᴰ·tail, List·Memᴰ·not-nil, List·Memᴰ·cases-cons, List·Memᴰ·append-cases, Memᴰ·append-left, Memᴰ·append-right, Memᴰ·cast}
 use native.Mathlib.Omega.{arith}
 use native.Mathlib.Nat.{not-suc-le-zero, le-of-suc-le-suc}
 use lib.Dec.{eqb}
 use lib.ListN.{length, getD}
 use borrow.Author.Tests.{eqb-true, eq-eqb}
-use Rattle.tally.specs.Tally.{oneIf, all, any, count, keep, join, span, Way, put}
+use Rattle.tally.specs.Tally.{oneIf, all, count, keep, join, span, Way, put}
 use Rattle.tally.proofs.TallyLaws.{and-both, test-ext, span-in, span-once, Once}
 
 -- ---- tests
@@ -21,10 +21,6 @@ false-of false h = refl
 pub bit-zero : (b : Bool) → oneIf b ≡ 0 → b ≡ false
 bit-zero true e = absurd (omega arith)
 bit-zero false e = refl
-
-pub or-split : (a b : Bool) → (a || b) ≡ true → (a ≡ true) ⊎ (b ≡ true)
-or-split true b t = inl refl
-or-split false b t = inr t
 
 -- ---- kept and joined elements
 
@@ -80,16 +76,6 @@ module _ {A B : Type 0} where
       ⊎-elim (λ q. (y, List·Memᴰ·head refl, q)) (λ q. let w = of-join f ys q in (w .0, List·Memᴰ·tail (w .1), w .2)) (List·Memᴰ·append-cases (f y) m)
 
 -- ---- numbers in a list
-
-pub any-mem : {v : ℕ} {xs : List ℕ} → List·Memᴰ v xs → any (eqb v) xs ≡ true
-unfolding any
-any-mem {v} (List·Memᴰ·head {x = y} e) = rw (eq-eqb v y e)
-any-mem {v} (List·Memᴰ·tail {x = y} m) = rw (any-mem m) (or-true (eqb v y))
-
-pub any-in : (v : ℕ) (xs : List ℕ) → any (eqb v) xs ≡ true → List·Memᴰ v xs
-unfolding any
-any-in v [] t = absurd (true≢false (sym t))
-any-in v (x ∷ xs) t = ⊎-elim (λ e. List·Memᴰ·head (eqb-true v x e)) (λ u. List·Memᴰ·tail (any-in v xs u)) (or-split (eqb v x) (any (eqb v) xs) t)
 
 pub count-mem : {c : ℕ} {xs : List ℕ} → List·Memᴰ c xs → 0 < count (eqb c) xs
 count-mem {c} m = count-pos (eqb c) m (eq-eqb c c refl)

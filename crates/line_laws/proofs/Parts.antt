@@ -10,13 +10,13 @@ use lib.Dec.{eqb}
 use lib.ListN.{length, getD, length-append}
 use borrow.Author.Tests.{eqb-true}
 use Rattle.tally.specs.Tally.{oneIf, sum, count, Way}
-use Rattle.tally.proofs.TallyLaws.{and-left, and-right, count-append}
+use Rattle.tally.proofs.TallyLaws.{and-left, and-right, count-append, sum-append}
 use Rattle.tally.proofs.WayLaws.{all-each, way-length}
 use Rattle.rules.specs.Grid.{black, isBlack, digits, lawful, untilBlack, inside, lineSum}
 use Rattle.rules.specs.Number.{symbols}
 use Rattle.table.specs.Table.{own}
 use Rattle.line_laws.proofs.Lists.{bit-zero, count-pos, way-mem}
-use Rattle.line_laws.proofs.Pigeonhole.{sum-append, sum-each}
+use Rattle.line_laws.proofs.Pigeonhole.{sum-each}
 use Rattle.line_laws.proofs.Subsets.{digits-once}
 use Rattle.line_laws.proofs.Half.{Symbol, is-black, is-digit, symbol}
 use Rattle.line_laws.proofs.Own.{own-cons, own-append, own-left, own-black, own-white}

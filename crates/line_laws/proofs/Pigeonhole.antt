@@ -1,7 +1,7 @@
 -- The weight of a list by its values, and the pigeonhole principle. Assumes nothing.
 use Prim.Native.Nat.{ℕ, _+_, _*_, _≤_}
 use mathlib.Core.Path.{_≡_, refl, sym, ap, _∙_}
-use mathlib.Core.List.{List, [], _∷_, _++_, map, List·Memᴰ, List·Memᴰ·head, List·Memᴰ·tail}
+use mathlib.Core.List.{List, [], _∷_, map, map-id, List·Memᴰ, List·Memᴰ·head, List·Memᴰ·tail}
 use native.Mathlib.Omega.{arith}
 use native.Mathlib.Nat.{zero-mul, add-mul, mul-one, one-mul}
 use native.Mathlib.Decide.{ℕ-discrete}
@@ -38,15 +38,6 @@ module _ {A : Type 0} where
   sum-full f (List·Memᴰ·head {x = y} {xs = ys} e) h l =
       rw e (omega (arith, h y (List·Memᴰ·head refl), sum-most f ys (λ z m. h z (List·Memᴰ·tail m))))
   sum-full f (List·Memᴰ·tail {x = y} {xs = ys} k) h l = sum-full f k (λ z m. h z (List·Memᴰ·tail m)) (omega (arith, h y (List·Memᴰ·head refl)))
-
-pub sum-append : (xs ys : List ℕ) → sum (xs ++ ys) ≡ sum xs + sum ys
-unfolding sum
-sum-append [] ys = omega arith
-sum-append (x ∷ xs) ys = omega (arith, sum-append xs ys)
-
-map-self : (xs : List ℕ) → map (λ x. x) xs ≡ xs
-map-self [] = refl
-map-self (x ∷ xs) = ap (λ l. x ∷ l) (map-self xs)
 
 -- ---- by value
 
@@ -87,4 +78,4 @@ module _ (ds : List ℕ) (o : Once ds) where
 
     pub sum-each : ((d : ℕ) → List·Memᴰ d ds → count (eqb d) m ≡ 1) → sum m ≡ sum ds
     sum-each one =
-        ap sum (sym (map-self m)) ∙ sum-by-value (λ d. d) m h ∙ sum-on ds (λ d k. ap (λ x. x * d) (one d k) ∙ one-mul d) ∙ ap sum (map-self ds)
+        ap sum (sym (map-id m)) ∙ sum-by-value (λ d. d) m h ∙ sum-on ds (λ d k. ap (λ x. x * d) (one d k) ∙ one-mul d) ∙ ap sum (map-id ds)

@@ -10,7 +10,7 @@ use borrow.Author.Tests.{lt-ltb, le-ltb}
 use lib.Seq.{getD-set-same, getD-set-other}
 use Rattle.tally.specs.Tally.{span, keep, join}
 use Rattle.tally.specs.Tally as tally
-use Rattle.tally.proofs.TallyLaws.{span-length}
+use Rattle.tally.proofs.TallyLaws.{sum-append, span-length}
 use Rattle.rules.proofs.StridedLaws.{map-next}
 use Rattle.words.specs.Word.{maskIn, sizeIn, fromSum, Known, wordOf, part}
 use Rattle.words.proofs.WordFacts.{subset-fits, from-sum-most}
@@ -28,11 +28,6 @@ pub map-same : (f g : ℕ → ℕ) (a k : ℕ) → ((j : ℕ) → a ≤ j → j 
 unfolding span
 map-same f g a zero e = refl
 map-same f g a (suc k) e = ap₂ _∷_ (e a (omega arith) (omega arith)) (map-same f g (suc a) k (λ j h l. e j (omega arith) (omega arith)))
-
-sum-append : (x y : List ℕ) → tally.sum (x ++ y) ≡ tally.sum x + tally.sum y
-unfolding tally.sum
-sum-append [] y = omega arith
-sum-append (a ∷ x) y = omega (arith, sum-append x y)
 
 -- as many parts as arrangements, each 0 or 1
 parts-le : (k n p v : ℕ) (ids : List ℕ) → tally.sum (map (λ id. part k (wordOf n id) p v) ids) ≤ length ids

@@ -1,8 +1,8 @@
 // The live arrangements of each line and their supports, before any strike (in the Rust: init_live_tuples).
 use puzzle::max_target;
 use slab::Slab;
-use slab::wide;
 use value::Value;
+use value::wide;
 use words::Subset;
 use words::first_of;
 use words::from_sum;

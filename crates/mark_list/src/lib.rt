@@ -1,5 +1,6 @@
 // Marks: read from bytes, unpacked, and checked (they stand for take_branch and reject_branch of the Rust).
 use value::Value;
+use value::wide;
 ghost use mathlib.Core.Path.{_≡_};
 ghost use Prim.Native.Nat.{_+_, _*_, _≤_, _<_};
 ghost use lib.ListN.{length};
@@ -20,12 +21,6 @@ fn wide16(x: u8) -> u16
     ensures { λ r. ⌜ r ≡ x ⌝ }
 {
     x as u16
-}
-
-fn wide(x: u16) -> usize
-    ensures { λ r. ⌜ r ≡ x ⌝ }
-{
-    x as usize
 }
 
 impl Mark {

@@ -1,6 +1,6 @@
 -- Going through the row-half candidates of a cell, the lowest first. Assumes nothing.
 use Prim.Native.Nat.{ℕ, _-_, _*_, _%_, _^_, _≤_, _<_}
-use mathlib.Core.Path.{_≡_, refl, sym, ap, _∙_}
+use mathlib.Core.Path.{_≡_, sym, ap, _∙_}
 use mathlib.Core.List.{List}
 use native.Mathlib.Omega.{arith}
 use native.Mathlib.Decide.{ℕ-discrete, decLt}
@@ -9,7 +9,7 @@ use lib.Bits.{bitAnd, and-lt}
 use lib.Count.{ones, trailingZeros}
 use lib.Pow.{pow-pos}
 use Rattle.bits.specs.Bit.{bit}
-use Rattle.bits.proofs.BitLaws.{bit-lt, bit-and, bit-le, bit-taken, bit-kept, shl-one, Lowest, trailing-lowest}
+use Rattle.bits.proofs.BitLaws.{bit-lt, bit-and, bit-le, bit-taken, bit-kept, shl-one, Lowest, trailing-lowest, ones-0}
 use Rattle.slab.proofs.SlabLaws.{cand-in}
 use Rattle.pick.specs.Choice.{rowChoices, Candidate}
 use Rattle.pick.proofs.ChoiceLaws.{mask-zero, mask-out, freedom-choices}
@@ -20,10 +20,6 @@ pub record Choosing (l : List ℕ) (cell rest best : ℕ) : Type 0 where
   pub fits : rest < 2 ^ 16
   pub within : (v : ℕ) → v < 16 → bit v rest ≡ 1 → Candidate l cell v
   pub chosen : Candidate l cell best
-
-ones-none : ones 0 ≡ 0
-unfolding ones
-ones-none = refl
 
 module _ (l : List ℕ) (cell : ℕ) (p : PlaceAsk l cell) (f : getD l cell 0 < 2 ^ 16) where
   row-half : (v : ℕ) → v < 16 → bit v (bitAnd (getD l cell 0) 1022) ≡ 1 → Candidate l cell v
@@ -43,7 +39,7 @@ module _ (l : List ℕ) (cell : ℕ) (p : PlaceAsk l cell) (f : getD l cell 0 < 
       record { fits = fits; within = row-half; chosen = row-half _ (t .in-width) (t .here) }
     where
       some : Dec (bitAnd (getD l cell 0) 1022 ≡ 0) → 0 < bitAnd (getD l cell 0) 1022
-      some (yes z) = absurd (omega (arith, freedom-choices l cell (p .place) f, ap ones z, ones-none))
+      some (yes z) = absurd (omega (arith, freedom-choices l cell (p .place) f, ap ones z, ones-0))
       some (no z) = omega arith
 
 module _ {l : List ℕ} {cell rest best : ℕ} (c : Choosing l cell rest best) (pos : (rest ≡ 0) → ⊥) where

@@ -9,13 +9,12 @@ use native.Mathlib.Decide.{ℕ-discrete}
 use lib.Dec.{eqb, ltb}
 use borrow.Author.Tests.{lt-ltb, le-ltb, ltb-true, eq-eqb}
 use Rattle.tally.specs.Tally.{any}
-use Rattle.tally.proofs.TallyLaws.{and-left, and-right}
+use Rattle.tally.proofs.TallyLaws.{and-left, and-right, any-in}
 use Rattle.rules.specs.Size.{Size}
 use Rattle.rules.specs.Grid.{Puzzle, Line, index, line, target}
 use Rattle.rules.specs.Mark.{has}
 use Rattle.table.specs.Closed.{Arrangement, arrangements, Covers}
 use Rattle.table.specs.Table.{places, firstBlack, half, everyValue, own, fits}
-use Rattle.line_laws.proofs.Lists.{any-in}
 use Rattle.line_laws.proofs.Half.{digit-in, first-in, second-in}
 use Rattle.line_laws.proofs.Parts.{LawfulLine}
 use Rattle.line_laws.proofs.Found.{Follows, Backed, backed}

@@ -1,16 +1,16 @@
 -- The loop over the waiting strikes. Assumes nothing.
 use Prim.Native.Nat.{ℕ, zero, suc, _+_, _-_, _*_, _/_, _%_, _^_, _≤_, _<_}
-use mathlib.Core.Path.{_≡_, refl, sym, ap, _∙_, subst}
+use mathlib.Core.Path.{_≡_, refl, sym, _∙_, subst}
 use mathlib.Core.Bool.{true, false, true≢false}
 use mathlib.Core.Logic.{_≢_}
 use mathlib.Core.List.{List}
 use native.Mathlib.Omega.{arith}
-use native.Mathlib.Nat.{pow-suc, zero-div}
+use native.Mathlib.Nat.{pow-suc}
 use native.Mathlib.Decide.{ℕ-discrete}
 use lib.ListN.{length, getD}
 use borrow.Author.Tests.{ne-eqb}
 use Rattle.bits.specs.Bit.{bit}
-use Rattle.bits.proofs.BitLaws.{bit-zero, bit-suc}
+use Rattle.bits.proofs.BitLaws.{bit-zero, bit-suc, bit-none}
 use Rattle.bits.proofs.SumLaws.{same-no}
 use Rattle.slab.specs.Slab.{cand, tableIn, tail, entry, lag}
 use Rattle.slab.proofs.SlabLaws.{cand-in}
@@ -32,10 +32,6 @@ one-bit (suc w) m h d =
       | yes e ↦ (0, omega arith, bit-zero m ∙ e)
       | no e ↦ let r = one-bit w (m / 2) (omega arith) (λ q. d (omega arith)) in (suc (r .0), omega (arith, r .1), bit-suc (r .0) m ∙ r .2)
     ]
-
-zero-bit : (v : ℕ) → bit v 0 ≡ 0
-unfolding bit
-zero-bit v = ap (λ (y : ℕ). y % 2) (zero-div (2 ^ v))
 
 -- After the strikes before the head.
 pub record Propagating (n : ℕ) (ws l₀ l : List ℕ) (head : ℕ) : Type 0 where
@@ -106,7 +102,7 @@ module _ {n : ℕ} {ws l₀ l : List ℕ} {head : ℕ} (g : Propagating n ws l�
         }
       where
         none : (v : ℕ) → cand l (e / 16) v ≡ 0
-        none v = cand-in l (e / 16) v loop-cell ∙ rw z (zero-bit v)
+        none v = cand-in l (e / 16) v loop-cell ∙ rw z (bit-none v)
 
     -- the strike is handled
     module _ (some : getD l (e / 16) 0 ≢ 0) (fits : getD l (e / 16) 0 < 2 ^ 16) {l′ : List ℕ} (d : UpdateDone n l l′ (e / 16 / 9) (e / 16 % 9) (e % 16)) where

@@ -1,5 +1,5 @@
 -- The lines of a grid as a list: each is in it, and a test of all of them is a test of the rows and of the columns. Assumes nothing.
-use Prim.Native.Nat.{ℕ, _+_, _*_, _<_}
+use Prim.Native.Nat.{ℕ, zero, suc, _+_, _*_, _<_}
 use mathlib.Core.Path.{_≡_, ap₂, _∙_, subst}
 use mathlib.Core.Bool.{Bool, true, _&&_}
 use mathlib.Core.List.{List, map, List·Memᴰ, Memᴰ·append-left, Memᴰ·append-right, Memᴰ·map}
@@ -14,6 +14,10 @@ use Rattle.rules.specs.Number.{symbols}
 -- a cell's place in the list of cells
 pub place-lt : (n r c : ℕ) → r < n → c < n → r * n + c < n * n
 place-lt n r c h g = omega (arith, mul-le-mul-right n h)
+
+pub place-size : (n i : ℕ) → i < n * n → 0 < n
+place-size zero i h = absurd (omega arith)
+place-size (suc n) i h = omega arith
 
 pub line-in : (n : ℕ) (ℓ : Line) → index ℓ < n → List·Memᴰ ℓ (lines n)
 unfolding lines index

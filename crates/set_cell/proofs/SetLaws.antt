@@ -1,7 +1,7 @@
 -- The strikes of set_cell's parts are those of setting the cell; the table after them. Assumes nothing.
 use Prim.Native.Nat.{ℕ, _+_, _*_, _/_, _%_, _≤_, _<_}
 use mathlib.Core.Path.{_≡_, refl, sym, _∙_}
-use mathlib.Core.Bool.{Bool, true, false, not, _&&_, true≢false}
+use mathlib.Core.Bool.{Bool, true, false, not, _&&_, true≢false, and-true, and-false}
 use mathlib.Core.Logic.{_≢_, _⊎_, inl, inr, ⊎-elim}
 use mathlib.Core.List.{List}
 use native.Mathlib.Omega.{arith}
@@ -162,14 +162,6 @@ table-no l r c v t =
       | no e ↦ omega (arith, cand-lt l (r * 9 + c) v)
     ]
 
-and-none : (a : Bool) → (a && false) ≡ false
-and-none true = refl
-and-none false = refl
-
-and-only : (a : Bool) → (a && true) ≡ a
-and-only true = refl
-and-only false = refl
-
 -- The table after a cell is set.
 pub set-table : {l l′ : List ℕ} (r c v : ℕ) → Struck l l′ (SetHit r c v) →
     (i j w : ℕ) → i < 9 → j < 9 → w < 16 → tableIn l′ i j w ≡ taken (tableIn l) r c v i j w
@@ -184,10 +176,10 @@ set-table {l} {l′} r c v s i j w hi hj hw = go (strikes r c v i j w) refl (ℕ
 
     go : (b : Bool) → strikes r c v i j w ≡ b → Dec (cand l (i * 9 + j) w ≡ 1) → Dec (cand l′ (i * 9 + j) w ≡ 0) → tableIn l′ i j w ≡
         (tableIn l i j w && not (strikes r c v i j w))
-    go true t d e = rw t (no-table l′ i j w (s .gone (i * 9 + j) w hw (rw (ei, ej) t)) ∙ sym (and-none (tableIn l i j w)))
+    go true t d e = rw t (no-table l′ i j w (s .gone (i * 9 + j) w hw (rw (ei, ej) t)) ∙ sym (and-false (tableIn l i j w)))
     go false t (yes d) (yes e) = absurd (true≢false (sym (rw (ei, ej) at (s .only (i * 9 + j) w hw d e)) ∙ t))
     go false t (yes d) (no e) = rw t (yes-table l′ i j w (omega (arith, cand-lt l′ (i * 9 + j) w)) ∙ sym (yes-table l i j w d) ∙ sym
-        (and-only (tableIn l i j w)))
+        (and-true (tableIn l i j w)))
     go false t (no d) e =
         let z : cand l (i * 9 + j) w ≡ 0 = omega (arith, cand-lt l (i * 9 + j) w) in
-        rw t (no-table l′ i j w (omega (arith, s .grown .sub (i * 9 + j) w hw)) ∙ sym (no-table l i j w z) ∙ sym (and-only (tableIn l i j w)))
+        rw t (no-table l′ i j w (omega (arith, s .grown .sub (i * 9 + j) w hw)) ∙ sym (no-table l i j w z) ∙ sym (and-true (tableIn l i j w)))

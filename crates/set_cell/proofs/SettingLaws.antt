@@ -8,9 +8,8 @@ use lib.Dec.{eqb, ltb, leb}
 use lib.Pow.{pow-mono}
 use borrow.Author.Tests.{ltb-true, leb-true, eqb-true, eqb-false, not-true, lt-ltb, le-ltb, le-leb, eq-eqb, ne-eqb}
 use Rattle.tally.specs.Tally.{span, all}
-use Rattle.tally.proofs.TallyLaws.{and-left, and-right, and-both, span-mem}
+use Rattle.tally.proofs.TallyLaws.{and-left, and-right, and-both, span-mem, or-split}
 use Rattle.tally.proofs.WayLaws.{all-each}
-use Rattle.line_laws.proofs.Lists.{or-split}
 use Rattle.bits.specs.Bit.{bit}
 use Rattle.bits.proofs.BitLaws.{shl-one}
 use Rattle.rules.specs.Mark.{leftBlack, rightBlack, upperBlack, lowerBlack}

@@ -9,10 +9,9 @@ use lib.Dec.{eqb, ltb, leb}
 use lib.ListN.{getD, set}
 use borrow.Author.Tests.{eqb-true, eq-eqb, le-leb, lt-leb, lt-ltb, leb-true, ltb-true}
 use Rattle.tally.specs.Tally.{span, all}
-use Rattle.tally.proofs.TallyLaws.{and-both}
+use Rattle.tally.proofs.TallyLaws.{and-both, or-split}
 use Rattle.rules.specs.Grid.{Line, across, down}
 use Rattle.table.specs.Table.{firstBlack}
-use Rattle.line_laws.proofs.Lists.{or-split}
 use Rattle.table.specs.Lines.{rowOf, columnOf, cellOf}
 use Rattle.bits.specs.Bit.{bit}
 use Rattle.bits.specs.Sum.{sumOver}

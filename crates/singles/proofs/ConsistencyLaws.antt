@@ -11,7 +11,7 @@ use Rattle.counters.specs.Counters.{BlacksOf}
 use Rattle.counters.proofs.CounterLaws.{moved-wide, moved-both}
 use Rattle.counters.proofs.Families.{black-moved}
 use Rattle.singles.proofs.ReasonLaws.{steps-both}
-use Rattle.singles.proofs.HandlingLaws.{handling-grown, handling-at, handling-cell}
+use Rattle.singles.proofs.HandlingLaws.{handling-grown, handling-at, handling-now, handling-cell}
 use Rattle.singles.specs.Handling.{Handling, blackOf, BlacksAt, BlacksAsk, BlacksDone, ConsistencyAsk, ConsistencyDone}
 
 module _ {n r c v h : ℕ} {l : List ℕ} {b : Bool} (a : Handling n l r c v h) where
@@ -31,18 +31,15 @@ module _ {n r c v : ℕ} {l : List ℕ} {b : Bool} (a : ConsistencyAsk n l r c v
       record { ready = a .strike .ready; line = across r; place = c; head = a .head; value = v; counted = row-at (a .strike) e (a .blacks .rows) }
 
   module _ {l₁ : List ℕ} {b′ : Bool} (d : BlacksDone n l l₁ b (1423 + (r * 9 + c)) (r * 9 + c) 3072) (e′ : b′ ≡ blackOf 10 v) where
-    now : (h : ℕ) → Next l h (r * 9 + c) v → Handling n l₁ r c v h
-    now h x = handling-grown (d .moved .grown) (handling-at (a .strike) h x)
-
     column-now : (h : ℕ) → Next l h (r * 9 + c) v → BlacksOf (down 0) n l h → BlacksAt n l₁ b′ (1504 + (r * 9 + c)) (r * 9 + c) 768 (down c) r h v
     column-now h x w =
-        column-at (now h x) e′
+        column-at (handling-now (d .moved .grown) (a .strike) h x) e′
         (black-moved (a .strike .ready .size .high) (d .moved) (omega (arith, x .waiting)) (down 0) (inr (omega (arith, handling-cell (a .strike)))) w)
 
     pub column-blacks-ask : BlacksAsk n l₁ b′ (1504 + (r * 9 + c)) (r * 9 + c) 768
     column-blacks-ask =
         record {
-          ready = now (a .head) (a .strike .next) .ready;
+          ready = handling-grown (d .moved .grown) (a .strike) .ready;
           line = down c;
           place = r;
           head = a .head;

@@ -23,11 +23,9 @@ handling-grown g a = record { ready = ready-grown g (a .ready); row = a .row; co
 pub handling-at : {n r c v h : ℕ} {l : List ℕ} → Handling n l r c v h → (k : ℕ) → Next l k (r * 9 + c) v → Handling n l r c v k
 handling-at a k x = record { ready = a .ready; row = a .row; column = a .column; value = a .value; next = x }
 
+-- and in a grown state
+pub handling-now : {n r c v h : ℕ} {l l′ : List ℕ} → Grown l l′ → Handling n l r c v h → (k : ℕ) → Next l k (r * 9 + c) v → Handling n l′ r c v k
+handling-now g a k x = handling-grown g (handling-at a k x)
+
 pub handling-cell : {n r c v h : ℕ} {l : List ℕ} → Handling n l r c v h → r * 9 + c < 81
 handling-cell a = omega (arith, a .row, a .column, a .ready .size .high)
-
--- ---- halves
-
--- ---- places in a line
-
--- ---- blacks of a cell

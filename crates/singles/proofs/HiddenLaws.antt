@@ -13,7 +13,7 @@ use Rattle.counters.specs.Counters.{PlacesOf}
 use Rattle.counters.proofs.CounterLaws.{moved-wide, moved-both}
 use Rattle.counters.proofs.Families.{place-moved}
 use Rattle.singles.proofs.ReasonLaws.{steps-both}
-use Rattle.singles.proofs.HandlingLaws.{handling-grown, handling-at}
+use Rattle.singles.proofs.HandlingLaws.{handling-grown, handling-at, handling-now}
 use Rattle.singles.specs.Handling.{Handling, PlacesAt, PlacesAsk, PlacesDone, HiddenAsk, HiddenDone}
 
 module _ {n r c v h : ℕ} {l : List ℕ} {b : Bool} (a : Handling n l r c v h) where
@@ -60,17 +60,14 @@ module _ {n r c v : ℕ} {l : List ℕ} {b : Bool} (a : HiddenAsk n l r c v) (e 
   row-places-ask = record { ready = a .strike .ready; line = across r; place = c; head = a .head; counted = row-at (a .strike) e (a .places .rows) }
 
   module _ {l₁ : List ℕ} {b′ : Bool} (d : PlacesDone n l l₁ b (1135 + r * 16 + v) (r * 9) 1 v) (e′ : b′ ≡ inColumn v) where
-    now : (h : ℕ) → Next l h (r * 9 + c) v → Handling n l₁ r c v h
-    now h x = handling-grown (d .moved .grown) (handling-at (a .strike) h x)
-
     column-now : (h : ℕ) → Next l h (r * 9 + c) v → PlacesOf (down 0) n l h → PlacesAt n l₁ b′ (1135 + (9 + c) * 16 + v) c 9 v (down c) r h
     column-now h x w =
-        column-at (now h x) e′ (place-moved (a .strike .ready .size .high) (d .moved) (omega (arith, x .waiting)) (down 0) (inr (row-end a)) w)
+        column-at (handling-now (d .moved .grown) (a .strike) h x) e′ (place-moved (a .strike .ready .size .high) (d .moved) (omega (arith, x .waiting)) (down 0) (inr (row-end a)) w)
 
     pub column-places-ask : PlacesAsk n l₁ b′ (1135 + (9 + c) * 16 + v) c 9 v
     column-places-ask =
         record {
-          ready = now (a .head) (a .strike .next) .ready;
+          ready = handling-grown (d .moved .grown) (a .strike) .ready;
           line = down c;
           place = r;
           head = a .head;

@@ -21,7 +21,7 @@ use Rattle.set_cell.proofs.SetLaws.{value-range}
 use Rattle.counters.specs.Counters.{Fell, IsSet, AllSet, inLine, placesBase, linePlaces, PlacesOf}
 use Rattle.counters.proofs.CounterLaws.{fell-lower, fell-struck, fell-moved, moved-refl, ruled-pass, ruled-positive, ruled-most, ruled-done}
 use Rattle.counters.proofs.Families.{fine-places}
-use Rattle.counters.proofs.Lines.{in-grid, grid-place, place-yes, in-half, line-hit, counter-value, counter-used, counter-cell}
+use Rattle.counters.proofs.Lines.{in-grid, grid-place, place-yes, in-half, line-hit, counter-value, counter-used, counter-cell, counter-cand}
 use Rattle.table.specs.Lines.{cellOf}
 use Rattle.singles.proofs.ReasonLaws.{still-lower, taken-at}
 use Rattle.singles.specs.Reasons.{Reason, hidden, done, step}
@@ -70,9 +70,6 @@ module _ {n counter start stride v : ℕ} {own : Bool} {l : List ℕ} {ℓ : Lin
               (omega (arith, a .place, high)) (counter-cell ℓ v narrow i) (counter-value ℓ v narrow));
         }
 
-    counted : (j : ℕ) → cand l (linePlaces ℓ .cell (index ℓ * 16 + v) j) ((index ℓ * 16 + v) % 16) ≡ cand l (cellOf ℓ j) v
-    counted j = rw (counter-cell ℓ v narrow j, counter-value ℓ v narrow)
-
     module _ {l₂ : List ℕ} (f : Fell l l₂ counter) where
       fell : Fell l l₂ (placesBase ℓ + (index ℓ * 16 + v))
       fell = rw (a .at-counter) at f
@@ -82,7 +79,7 @@ module _ {n counter start stride v : ℕ} {own : Bool} {l : List ℕ} {ℓ : Lin
           let m = ruled-most (linePlaces ℓ) 1 (AllSet (linePlaces ℓ)) (fine-places ℓ) n high narrow (a .next) (a .places) (index ℓ * 16 + v) i used
           (omega (arith, a .place, high)) (counter-cell ℓ v narrow i) (counter-value ℓ v narrow) fell in
           let e = sum-same 0 9 (λ (j : ℕ). cand l (linePlaces ℓ .cell (index ℓ * 16 + v) j) ((index ℓ * 16 + v) % 16)) (λ (j : ℕ). cand l (cellOf ℓ j) v)
-          (λ j p q. counted j) in
+          (λ j p q. counter-cand ℓ v narrow l j) in
           rw (a .at-counter) (omega (arith, m, e))
 
       finish : (getD l₂ counter 0 ≤ 1 → (j : ℕ) → j < 9 → IsSet l₂ (cellOf ℓ j) v) → PlacesOf ℓ n l₂ (h + 1)

@@ -12,7 +12,7 @@ use Rattle.counters.specs.Counters.{halves, HalvesOf}
 use Rattle.counters.proofs.CounterLaws.{moved-wide, moved-both}
 use Rattle.counters.proofs.Families.{half-moved}
 use Rattle.singles.proofs.ReasonLaws.{steps-both}
-use Rattle.singles.proofs.HandlingLaws.{handling-grown, handling-at, handling-cell}
+use Rattle.singles.proofs.HandlingLaws.{handling-grown, handling-at, handling-now, handling-cell}
 use Rattle.singles.specs.Handling.{Handling, HalfAt, HalfAsk, HalfDone, SingletonAsk, SingletonDone}
 
 module _ {n r c v h : ℕ} {l : List ℕ} {b : Bool} (a : Handling n l r c v h) where
@@ -32,18 +32,15 @@ module _ {n r c v : ℕ} {l : List ℕ} {b : Bool} (a : SingletonAsk n l r c v) 
       record { ready = a .strike .ready; line = across r; place = c; head = a .head; value = v; half = row-at (a .strike) e (a .halves .rows) }
 
   module _ {l₁ : List ℕ} {b′ : Bool} (d : HalfDone n l l₁ b (973 + (r * 9 + c)) (r * 9 + c) 1022) (e′ : b′ ≡ inColumn v) where
-    now : (h : ℕ) → Next l h (r * 9 + c) v → Handling n l₁ r c v h
-    now h x = handling-grown (d .moved .grown) (handling-at (a .strike) h x)
-
     column-now : (h : ℕ) → Next l h (r * 9 + c) v → HalvesOf (down 0) n l h → HalfAt n l₁ b′ (1054 + (r * 9 + c)) (r * 9 + c) 3326 (down c) r h v
     column-now h x w =
-        column-at (now h x) e′
+        column-at (handling-now (d .moved .grown) (a .strike) h x) e′
         (half-moved (a .strike .ready .size .high) (d .moved) (omega (arith, x .waiting)) (down 0) (inr (omega (arith, handling-cell (a .strike)))) w)
 
     pub column-half-ask : HalfAsk n l₁ b′ (1054 + (r * 9 + c)) (r * 9 + c) 3326
     column-half-ask =
         record {
-          ready = now (a .head) (a .strike .next) .ready;
+          ready = handling-grown (d .moved .grown) (a .strike) .ready;
           line = down c;
           place = r;
           head = a .head;

@@ -1,5 +1,6 @@
 // The state of the queue solver in one slice of 5,599 numbers, and its primitives (in the Rust: QueueSolverState and clear_mask).
 // A cell has the place row * 9 + column, a line the number row or 9 + column, at every size.
+use value::wide;
 ghost use mathlib.Core.Path.{_≡_};
 ghost use Prim.Native.Nat.{_-_, _<_};
 ghost use lib.ListN.{getD, set};
@@ -32,12 +33,6 @@ impl Slab {
     pub const SUPPORT: usize = 3007;
 
     pub const SIZE: usize = 5599;
-}
-
-pub fn wide(x: u16) -> usize
-    ensures { λ r. ⌜ r ≡ x ⌝ }
-{
-    x as usize
 }
 
 // Strikes a candidate that the cell has: it leaves the table and enters the queue.

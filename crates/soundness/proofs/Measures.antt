@@ -1,5 +1,5 @@
 -- Measures of a table that fall: its open cells when a candidate is taken, its candidates when one is struck. Assumes nothing.
-use Prim.Native.Nat.{ℕ, zero, suc, _+_, _*_, _/_, _%_, _≤_, _<_}
+use Prim.Native.Nat.{ℕ, _+_, _*_, _/_, _%_, _≤_, _<_}
 use mathlib.Core.Path.{_≡_, refl, sym, ap, _∙_}
 use mathlib.Core.Bool.{Bool, true, false, true≢false}
 use mathlib.Core.List.{List, [], _∷_, map, List·Memᴰ, List·Memᴰ·head, List·Memᴰ·tail}
@@ -10,7 +10,7 @@ use lib.Dec.{eqb, ltb}
 use borrow.Author.Tests.{eq-eqb, ltb-true, lt-ltb, le-ltb}
 use Rattle.tally.specs.Tally.{oneIf, sum, count, span}
 use Rattle.tally.proofs.TallyLaws.{Once, bit-le, sum-bits, span-in, span-mem, span-length}
-use Rattle.rules.proofs.GridLaws.{place-lt}
+use Rattle.rules.proofs.GridLaws.{place-lt, place-size}
 use Rattle.rules.specs.Grid.{across}
 use Rattle.rules.specs.Mark.{leftBlack}
 use Rattle.table.specs.Table.{Table, firstBlack, half}
@@ -46,15 +46,11 @@ count-less p q {xs = xs} k h a b =
 
 -- ---- the cells of a table, row by row
 
-pos : (n i : ℕ) → i < n * n → 0 < n
-pos zero i h = absurd (omega arith)
-pos (suc n) i h = omega arith
-
 cell-in : (n i : ℕ) → List·Memᴰ i (span 0 (n * n)) → (i / n < n) × (i % n < n)
 cell-in n i m =
     let l = span-in 0 (n * n) i m in
     let h : i < n * n = omega arith in
-    let z = pos n i h in
+    let z = place-size n i h in
     (div-lt-iff-lt-mul z .1 h, mod-lt i z)
 
 module _ (n r c : ℕ) (hr : r < n) (hc : c < n) where

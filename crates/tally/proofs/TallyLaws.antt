@@ -1,16 +1,16 @@
 -- Laws of tests, counting and ways. Assumes nothing.
 use Prim.Native.Nat.{ℕ, zero, suc, _+_, _≤_, _<_, zero-le}
 use mathlib.Core.Path.{_≡_, refl, sym, ap, ap₂, _∙_, fun-ext}
-use mathlib.Core.Bool.{Bool, true, false, not, _&&_, and-assoc}
+use mathlib.Core.Bool.{Bool, true, false, not, _&&_, _||_, true≢false, and-assoc, or-true}
 use mathlib.Core.List.{List, [], _∷_, _++_, map, List·Permᴰ, List·Permᴰ·nil, List·Permᴰ·cons, List·Permᴰ·swap, List·Permᴰ·trans, List·Memᴰ, List·Memᴰ·head, List·Memᴰ·tail, List·Memᴰ·not-nil}
 use native.Mathlib.Nat.{add-le-add, le-refl, eq-or-lt-of-le}
-use mathlib.Core.Logic.{⊎-elim}
+use mathlib.Core.Logic.{_⊎_, inl, inr, ⊎-elim}
 use native.Mathlib.Omega.{arith}
 use native.Mathlib.Decide.{ℕ-discrete}
 use lib.Dec.{eqb}
 use lib.ListN.{length, getD}
 use borrow.Author.Tests.{eqb-true, eq-eqb, ne-eqb}
-use Rattle.tally.specs.Tally.{oneIf, sum, all, count, inFront, ways, span, Way, done, put}
+use Rattle.tally.specs.Tally.{oneIf, sum, all, any, count, inFront, ways, span, Way, done, put}
 
 -- ---- tests
 
@@ -27,6 +27,10 @@ and-both s t = rw (s, t)
 
 pub and-map : {a b c d : Bool} → (a ≡ true → c ≡ true) → (b ≡ true → d ≡ true) → (a && b) ≡ true → (c && d) ≡ true
 and-map {a} {b} f g t = and-both (f (and-left a b t)) (g (and-right a b t))
+
+pub or-split : (a b : Bool) → (a || b) ≡ true → (a ≡ true) ⊎ (b ≡ true)
+or-split true b t = inl refl
+or-split false b t = inr t
 
 -- two tests that pass together are equal
 pub test-ext : (a b : Bool) → (a ≡ true → b ≡ true) → (b ≡ true → a ≡ true) → a ≡ b
@@ -108,6 +112,11 @@ module _ {A : Type 0} where
   sum-bits p [] = refl
   sum-bits p (x ∷ xs) = ap (λ n. oneIf (p x) + n) (sum-bits p xs)
 
+pub sum-append : (xs ys : List ℕ) → sum (xs ++ ys) ≡ sum xs + sum ys
+unfolding sum
+sum-append [] ys = omega arith
+sum-append (x ∷ xs) ys = omega (arith, sum-append xs ys)
+
 module _ {A : Type 0} where
   -- ---- ways
 
@@ -171,6 +180,18 @@ pub count-one : (s : List ℕ) → Once s → (k : ℕ) (p : List ℕ → Bool) 
     count p (ways s k) ≡ 1
 count-one s o k p g wg tg h =
     count-ways s k (λ x w. test-ext (p x) (sameList g x) (λ t. rw (h x w t) (same-refl g)) (λ t. rw (same-eq g x t) at tg)) ∙ count-same s o k wg
+
+-- ---- numbers in a list
+
+pub any-mem : {v : ℕ} {xs : List ℕ} → List·Memᴰ v xs → any (eqb v) xs ≡ true
+unfolding any
+any-mem {v} (List·Memᴰ·head {x = y} e) = rw (eq-eqb v y e)
+any-mem {v} (List·Memᴰ·tail {x = y} m) = rw (any-mem m) (or-true (eqb v y))
+
+pub any-in : (v : ℕ) (xs : List ℕ) → any (eqb v) xs ≡ true → List·Memᴰ v xs
+unfolding any
+any-in v [] t = absurd (true≢false (sym t))
+any-in v (x ∷ xs) t = ⊎-elim (λ e. List·Memᴰ·head (eqb-true v x e)) (λ u. List·Memᴰ·tail (any-in v xs u)) (or-split (eqb v x) (any (eqb v) xs) t)
 
 -- ---- the numbers from a on
 

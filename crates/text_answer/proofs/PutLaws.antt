@@ -2,7 +2,7 @@
 use Prim.Native.Nat.{ℕ, zero, suc, _+_, _-_, _/_, _%_, _≤_, _<_}
 use mathlib.Core.Path.{_≡_, refl, sym, ap, ap₂, _∙_}
 use mathlib.Core.Bool.{Bool, true}
-use mathlib.Core.List.{List, [], _∷_, _++_, map, append-assoc, append-nil, map-append}
+use mathlib.Core.List.{List, [], _∷_, _++_, map, append-assoc, append-nil, map-append, map-id}
 use native.Mathlib.Omega.{arith}
 use native.Mathlib.Numerals.{add-one}
 use lib.ListN.{length, getD, set, take, drop, length-append, length-drop, length-set, drop-of-length-le}
@@ -47,12 +47,8 @@ copied-next {f} {s} {i} {out} {l} v w h g e =
 pub copied-end : {f : ℕ → ℕ} {s : List ℕ} {i : ℕ} {out l : List ℕ} → Copied f s i out l → length s ≤ i → Put (map f s) i out l
 copied-end {f} {s} {i} w h = rw (take-all i s h) at (w .put)
 
-map-same : (s : List ℕ) → map (λ x. x) s ≡ s
-map-same [] = refl
-map-same (x ∷ s) = ap (λ t. x ∷ t) (map-same s)
-
 pub text-end : {s : List ℕ} {i : ℕ} {out l : List ℕ} → Copied (λ x. x) s i out l → length s ≤ i → Put s i out l
-text-end {s} w h = rw (map-same s) at (copied-end w h)
+text-end {s} w h = rw (map-id s) at (copied-end w h)
 
 -- ---- one text behind another
 

@@ -7,6 +7,13 @@ ghost use Rattle.rules.specs.Size.{Size};
 ghost use Rattle.table.specs.Table.{everyValue};
 ghost use Rattle.value.specs.Mask.{maskOf};
 
+// A number of 16 bits as a place, a length or a value: asks no proof that it fits.
+pub fn wide(x: u16) -> usize
+    ensures { λ r. ⌜ r ≡ x ⌝ }
+{
+    x as usize
+}
+
 pub struct Value {
     pub code: usize,
 }

@@ -2,13 +2,14 @@
 use Prim.Native.Nat.{ℕ, zero, suc, _+_, _-_, _/_, _%_, _≤_, _<_}
 use mathlib.Core.Path.{_≡_, refl, sym, ap, _∙_}
 use mathlib.Core.Bool.{Bool, true, false, _||_, cond, true≢false}
-use mathlib.Core.List.{List, [], _∷_, List·Memᴰ, List·Memᴰ·head, List·Memᴰ·tail}
+use mathlib.Core.List.{List, [], _∷_, List·Memᴰ}
 use native.Mathlib.Omega.{arith}
 use native.Mathlib.Decide.{decLt, decLe, ℕ-discrete}
 use lib.Dec.{eqb, ltb}
 use lib.ListN.{length, getD}
 use borrow.Author.Tests.{lt-ltb, le-ltb, le-leb, lt-leb, eq-eqb, ne-eqb}
 use Rattle.tally.specs.Tally.{span, any, keep}
+use Rattle.tally.proofs.TallyLaws.{any-mem, any-in}
 use Rattle.bits.specs.Bit.{bit}
 use Rattle.bits.proofs.BitLaws.{bit-zero}
 use Rattle.table.specs.Closed.{place, allows}
@@ -18,10 +19,6 @@ use Rattle.words.proofs.WordFacts.{subset-size, mask-even}
 use Rattle.words.proofs.StepLaws.{steps-on, steps-back, steps-none, steps-same, steps-lt}
 use Rattle.words.proofs.PatternLaws.{pattern-head, pattern-last, pattern-inner, pattern-inner-black, covered-on}
 use Rattle.words.proofs.WordLaws.{Fields, known-subset, known-fits, known-fields, known-steps, known-shaped}
-
-or-yes : (a : Bool) → (a || true) ≡ true
-or-yes true = refl
-or-yes false = refl
 
 -- ---- the digits of a mask
 
@@ -43,10 +40,10 @@ any-past q a (suc k) v h = go (q a) (any-past q (suc a) k v (omega arith))
     go true e = rw (ne-eqb v a (omega arith)) e
     go false e = e
 
-any-in : (q : ℕ → Bool) (a k v : ℕ) → a ≤ v → v < a + k → any (eqb v) (keep q (span a k)) ≡ q v
+any-kept : (q : ℕ → Bool) (a k v : ℕ) → a ≤ v → v < a + k → any (eqb v) (keep q (span a k)) ≡ q v
 unfolding any keep span
-any-in q a zero v h l = absurd (omega arith)
-any-in q a (suc k) v h l = go (ℕ-discrete v a) (q a) refl (λ n. any-in q (suc a) k v (omega arith) (omega arith))
+any-kept q a zero v h l = absurd (omega arith)
+any-kept q a (suc k) v h l = go (ℕ-discrete v a) (q a) refl (λ n. any-kept q (suc a) k v (omega arith) (omega arith))
   where
     go : Dec (v ≡ a) → (b : Bool) → q a ≡ b → ((v ≡ a → ⊥) → any (eqb v) (keep q (span (suc a) k)) ≡ q v) →
         any (eqb v) (cond b (a ∷ keep q (span (suc a) k)) (keep q (span (suc a) k))) ≡ q v
@@ -59,35 +56,21 @@ any-in q a (suc k) v h l = go (ℕ-discrete v a) (q a) refl (λ n. any-in q (suc
 pub digits-any : (m v : ℕ) → m % 2 ≡ 0 → v < 8 → any (eqb v) (digitsOf m) ≡ eqb (bit v m) 1
 unfolding digitsOf
 digits-any m zero e h = any-below _ 1 7 0 (omega arith) ∙ sym (ne-eqb (bit 0 m) 1 (omega (arith, bit-zero m)))
-digits-any m (suc v) e h = any-in (λ d. eqb (bit d m) 1) 1 7 (suc v) (omega arith) (omega arith)
+digits-any m (suc v) e h = any-kept (λ d. eqb (bit d m) 1) 1 7 (suc v) (omega arith) (omega arith)
 
 pub digits-past : (m v : ℕ) → 8 ≤ v → any (eqb v) (digitsOf m) ≡ false
 unfolding digitsOf
 digits-past m v h = any-past _ 1 7 v h
 
-any-mem : (v : ℕ) (l : List ℕ) → any (eqb v) l ≡ true → List·Memᴰ v l
-unfolding any
-any-mem v [] e = absurd (true≢false (sym e))
-any-mem v (x ∷ l) e = go (ℕ-discrete v x) (any-mem v l)
-  where
-    go : Dec (v ≡ x) → (any (eqb v) l ≡ true → List·Memᴰ v l) → List·Memᴰ v (x ∷ l)
-    go (yes q) ih = List·Memᴰ·head q
-    go (no q) ih = List·Memᴰ·tail (ih (rw (ne-eqb v x q) at e))
-
 pub digits-mem : (m v : ℕ) → m % 2 ≡ 0 → v < 8 → bit v m ≡ 1 → List·Memᴰ v (digitsOf m)
-digits-mem m v e h b = any-mem v (digitsOf m) (digits-any m v e h ∙ eq-eqb (bit v m) 1 b)
-
-mem-any : (v : ℕ) (l : List ℕ) → List·Memᴰ v l → any (eqb v) l ≡ true
-unfolding any
-mem-any v l (List·Memᴰ·head e) = rw (eq-eqb v _ e)
-mem-any v l (List·Memᴰ·tail {x = x} m) = rw (mem-any v _ m) (or-yes (eqb v x))
+digits-mem m v e h b = any-in v (digitsOf m) (digits-any m v e h ∙ eq-eqb (bit v m) 1 b)
 
 pub digits-narrow : (m v : ℕ) → List·Memᴰ v (digitsOf m) → v < 8
 digits-narrow m v h = go (decLt v 8)
   where
     go : Dec (v < 8) → v < 8
     go (yes a) = a
-    go (no a) = absurd (true≢false (sym (mem-any v (digitsOf m) h) ∙ digits-past m v (omega arith)))
+    go (no a) = absurd (true≢false (sym (any-mem h) ∙ digits-past m v (omega arith)))
 
 -- what a cell of an arrangement may have is a digit or one of two blacks
 pub allows-narrow : (n k id j v : ℕ) → k ≤ 10 → allows k (arrangementOf n id) j v ≡ true → v < 16

@@ -2,7 +2,7 @@
 use Prim.Native.Nat.{ℕ, zero, suc, _^_, min, max, _≤_, _<_}
 use mathlib.Core.Path.{_≡_, refl, sym, ap, _∙_}
 use mathlib.Core.Logic.{_⊎_, inl, inr, ⊎-elim}
-use mathlib.Core.Bool.{Bool, true, false, _&&_, cond, true≢false}
+use mathlib.Core.Bool.{Bool, true, false, _&&_, cond, true≢false, and-true, and-false}
 use native.Mathlib.Omega.{arith}
 use native.Mathlib.Decide.{decLt, ℕ-discrete}
 use lib.Dec.{eqb}
@@ -70,14 +70,6 @@ part-second k w p h = rw (pattern-black k w p (suc k) (omega arith), ne-eqb (suc
 pub part-other : (k w p v : ℕ) → 8 ≤ v → (v ≡ k → ⊥) → (v ≡ suc k → ⊥) → part k w p v ≡ 0
 part-other k w p v h a b = part-none k w p v (pattern-black k w p v h ∙ rw (ne-eqb v k a, ne-eqb v (suc k) b))
 
-and-none : (a : Bool) → (a && false) ≡ false
-and-none true = refl
-and-none false = refl
-
-and-one : (a : Bool) → (a && true) ≡ a
-and-one true = refl
-and-one false = refl
-
 -- ---- by the way from end to end
 
 module _ (n k w : ℕ) (s : Shaped n w) (h : 8 ≤ k) where
@@ -91,7 +83,7 @@ module _ (n k w : ℕ) (s : Shaped n w) (h : 8 ≤ k) where
 
   -- no digit lies at a place that is not an inner one
   none : (p v : ℕ) → v < 8 → bit p (innerOf w) ≡ 0 → pattern k w p v ≡ false
-  none p v l e = pattern-digit k w p v l ∙ rw (ne-eqb (bit p (innerOf w)) 1 (omega arith)) (and-none (eqb (bit v (setOf w)) 1))
+  none p v l e = pattern-digit k w p v l ∙ rw (ne-eqb (bit p (innerOf w)) 1 (omega arith)) (and-false (eqb (bit v (setOf w)) 1))
 
   -- a black at the place of the first black, of the second, and elsewhere
   at-first : (v : ℕ) → 8 ≤ v → pattern k w (firstOf w) v ≡ eqb v k
@@ -101,7 +93,7 @@ module _ (n k w : ℕ) (s : Shaped n w) (h : 8 ≤ k) where
     where
       go : (a b : Bool) → cond a true (b && false) ≡ a
       go true b = refl
-      go false b = and-none b
+      go false b = and-false b
 
   at-second : (v : ℕ) → 8 ≤ v → pattern k w (secondOf w) v ≡ eqb v (suc k)
   at-second v l =
@@ -110,14 +102,14 @@ module _ (n k w : ℕ) (s : Shaped n w) (h : 8 ≤ k) where
     where
       go : Dec (v ≡ k) → cond (eqb v k) false (eqb v (suc k) && true) ≡ eqb v (suc k)
       go (yes e) = rw (eq-eqb v k e, ne-eqb v (suc k) (omega arith))
-      go (no e) = rw (ne-eqb v k e) (and-one (eqb v (suc k)))
+      go (no e) = rw (ne-eqb v k e) (and-true (eqb v (suc k)))
 
   elsewhere : (p v : ℕ) → 8 ≤ v → (firstOf w ≡ p → ⊥) → (secondOf w ≡ p → ⊥) → pattern k w p v ≡ false
   elsewhere p v l a b = pattern-black k w p v l ∙ rw (ne-eqb (firstOf w) p a, ne-eqb (secondOf w) p b) (go (eqb v k) (eqb v (suc k)))
     where
       go : (a b : Bool) → cond a false (b && false) ≡ false
       go true b = refl
-      go false b = and-none b
+      go false b = and-false b
 
   off-ends : (p : ℕ) → (p ≡ fromOf w → ⊥) → (p ≡ toOf w → ⊥) → (firstOf w ≡ p → ⊥) × (secondOf w ≡ p → ⊥)
   unfolding fromOf toOf
@@ -170,7 +162,7 @@ module _ (n k w : ℕ) (s : Shaped n w) (h : 8 ≤ k) where
     not-to e = let l : steps n (fromOf w) (toOf w) < steps n (fromOf w) (toOf w) = rw e at b in omega arith
 
     pub pattern-inner : (v : ℕ) → v < 8 → pattern k w p v ≡ eqb (bit v (setOf w)) 1
-    pattern-inner v l = pattern-digit k w p v l ∙ rw (eq-eqb (bit p (innerOf w)) 1 (s .between p hp a b)) (and-one (eqb (bit v (setOf w)) 1))
+    pattern-inner v l = pattern-digit k w p v l ∙ rw (eq-eqb (bit p (innerOf w)) 1 (s .between p hp a b)) (and-true (eqb (bit v (setOf w)) 1))
 
     pub pattern-inner-black : (v : ℕ) → 8 ≤ v → pattern k w p v ≡ false
     pattern-inner-black v l = let o = off-ends p not-from not-to in elsewhere p v l (o .0) (o .1)

@@ -1,6 +1,7 @@
 // Arrangements of a line by number, and each of them packed into one word (in the Rust: the arrangements of QueueSolver, with their cells and patterns).
 // An arrangement has the number subset * 9 + start. A word has its set of digits in bits 0 to 7 (digit d is bit d), its inner places in bits 8 to 16, the
 // places of the line's first and second black in bits 17 to 20 and 21 to 24, and bit 25 if it begins with the second one, around the line's end.
+use value::wide;
 ghost use mathlib.Core.Path.{_≡_};
 ghost use Prim.Native.Nat.{_+_, _≤_, _<_};
 ghost use lib.ListN.{length};
@@ -271,12 +272,6 @@ fn word(n: usize, set: u32, len: usize, start: usize) -> u32
         return set + inner * 256 + (start as u32) * 131072 + (end as u32) * 2097152;
     }
     set + inner * 256 + ((end - n) as u32) * 131072 + (start as u32) * 2097152 + 33554432
-}
-
-fn wide(x: u16) -> usize
-    ensures { λ r. ⌜ r ≡ x ⌝ }
-{
-    x as usize
 }
 
 // The words of subset s, whose code is x: one for each start.
