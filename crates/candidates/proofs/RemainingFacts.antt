@@ -10,6 +10,7 @@ use Rattle.tally.specs.Tally.{span, sum, all, any, count, inFront, ways}
 use Rattle.tally.proofs.TallyLaws.{and-left, and-right, any-in}
 use Rattle.tally.proofs.WayLaws.{all-each, all-ways, way-map}
 use Rattle.rules.specs.Grid.{digits, lawful, untilBlack, inside, lineSum, meets, keepsLine, cell, row, column, line, lines, Puzzle, target, keeps, across}
+use Rattle.rules.proofs.GridLaws.{solution-way, way-solution}
 use Rattle.rules.specs.Mark.{rejects, markRow, markColumn, markValue, leftBlack, blackWith, has, keepsMark, keepsMarks}
 use Rattle.rules.specs.Number.{symbols, grids, solves}
 use Rattle.rules.proofs.Samples.{three}
@@ -52,7 +53,7 @@ unfolding gridsTest filledTest markTest grids
 remains p ms t small fit filled closed marks =
     let n = p .size in
     record {
-      grids = λ g s. if-then (is (solves p ms g)) (is (fits n t g)) .holds (all-ways (symbols n) (λ g. implies (solves p ms g) (fits n t g)) (s .filled) fit) (s .right);
+      grids = λ g s. if-then (is (solves p ms g)) (is (fits n t g)) .holds (all-ways (symbols n) (λ g. implies (solves p ms g) (fits n t g)) (solution-way s) fit) (s .right);
       filled = λ r c hr hc. each-below (λ r. each-below (λ c. is (any (t r c) (everyValue n))) n) n .holds filled r hr c hc;
       closed = closed;
       rejected = λ m k e. not-true _ (rw e at (all-each (markTest n t) k marks));
@@ -102,7 +103,7 @@ facts =
       empty-not = λ r. false≢true (r .filled 0 0 (omega arith) (omega arith));
       lost-not = λ r. false≢true
           (r .grids other
-          (record { filled = way-map (λ x. x) other (λ c m. any-in c (symbols 3) (all-each (λ c. any (eqb c) (symbols 3)) m refl)); right = refl }));
+          (way-solution (way-map (λ x. x) other (λ c m. any-in c (symbols 3) (all-each (λ c. any (eqb c) (symbols 3)) m refl))) refl));
       rejected-not = λ r. true≢false (r .rejected 0x8008 (List·Memᴰ·head refl) refl);
       taken-not = λ r. false≢true (r .taken 0x0008 (List·Memᴰ·head refl) refl);
       alone-not = λ r. true≢false (r .alone 0x0008 leftBlack (across 0) (List·Memᴰ·head refl) refl (List·Memᴰ·head refl) (List·Memᴰ·tail (List·Memᴰ·head refl)) (omega arith));

@@ -13,6 +13,7 @@ use Rattle.tally.specs.Tally.{any}
 use Rattle.tally.proofs.TallyLaws.{and-left, and-right, and-both}
 use Rattle.rules.specs.Grid.{Puzzle, across, down, keeps}
 use Rattle.rules.specs.Mark.{rejects, markRow, markColumn, markValue}
+use Rattle.rules.proofs.GridLaws.{solution-way}
 use Rattle.rules.specs.Check.{refusal, solveChecks}
 use Rattle.rules.specs.Number.{solves, number, Solution}
 use Rattle.puzzle.proofs.PuzzleLaws.{accepted}
@@ -155,7 +156,7 @@ module _ {p : Puzzle} {ms : List ℕ} {len : ℕ} (a : SolveAsk p ms len) where
       fits-grids : (g : List ℕ) → Solution p ms g → fits (p .size) t g ≡ true
       unfolding solves
       fits-grids g s =
-          let k : GridOf p g = record { filled = s .filled; kept = and-left _ _ (s .right) } in
+          let k : GridOf p g = record { filled = solution-way s; kept = and-left _ _ (s .right) } in
           let all-same = same-trans (marked-same) (same-trans (d .sound p refl (m .kept)) (same-ext p (solve-small a) (λ r c v hr hc q. sym (same r c v hr hc q)))) in
           sym (all-same .same g k) ∙ marks-fits p (solve-small a) (tableIn (m .before)) ms mark-in g k ∙ and-both (m .whole .whole g k) (and-right (keeps p g) _ (s .right))
 

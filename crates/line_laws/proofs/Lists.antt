@@ -9,7 +9,8 @@ use native.Mathlib.Nat.{not-suc-le-zero, le-of-suc-le-suc}
 use lib.Dec.{eqb}
 use lib.ListN.{length, getD}
 use borrow.Author.Tests.{eqb-true, eq-eqb}
-use Rattle.tally.specs.Tally.{oneIf, all, count, keep, join, span, Way, put}
+use Rattle.tally.specs.Tally.{oneIf, all, count, keep, join, span}
+use Rattle.tally.specs.Way.{Way, put}
 use Rattle.tally.proofs.TallyLaws.{and-both, test-ext, span-in, span-once, Once}
 
 -- ---- tests

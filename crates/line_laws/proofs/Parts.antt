@@ -9,7 +9,8 @@ use native.Mathlib.Nat.{not-suc-le-zero, add-zero}
 use lib.Dec.{eqb}
 use lib.ListN.{length, getD, length-append}
 use borrow.Author.Tests.{eqb-true}
-use Rattle.tally.specs.Tally.{oneIf, sum, count, Way}
+use Rattle.tally.specs.Tally.{oneIf, sum, count}
+use Rattle.tally.specs.Way.{Way}
 use Rattle.tally.proofs.TallyLaws.{and-left, and-right, count-append, sum-append}
 use Rattle.tally.proofs.WayLaws.{all-each, way-length}
 use Rattle.rules.specs.Grid.{black, isBlack, digits, lawful, untilBlack, inside, lineSum}

@@ -8,7 +8,8 @@ use native.Mathlib.Decide.{ℕ-discrete}
 use lib.Dec.{eqb, ltb}
 use lib.ListN.{length, getD, take, length-map}
 use borrow.Author.Tests.{eqb-true, eq-eqb, ne-eqb, lt-ltb, le-ltb}
-use Rattle.tally.specs.Tally.{oneIf, count, span, Way}
+use Rattle.tally.specs.Tally.{oneIf, count, span}
+use Rattle.tally.specs.Way.{Way}
 use Rattle.tally.proofs.TallyLaws.{and-both, count-map, bit-eq, bit-ne, span-in, span-length, map-at}
 use Rattle.tally.proofs.WayLaws.{way-map}
 use Rattle.rules.specs.Grid.{black, isBlack, digits, lawful, keepsLine}

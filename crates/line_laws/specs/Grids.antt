@@ -3,7 +3,7 @@ use Prim.Native.Nat.{ℕ, _*_}
 use mathlib.Core.Path.{_≡_}
 use mathlib.Core.Bool.{true}
 use mathlib.Core.List.{List}
-use Rattle.tally.specs.Tally.{Way}
+use Rattle.tally.specs.Way.{Way}
 use Rattle.rules.specs.Grid.{Puzzle, keeps}
 use Rattle.rules.specs.Number.{symbols}
 

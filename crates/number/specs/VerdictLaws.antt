@@ -6,6 +6,7 @@ use native.Mathlib.Omega.{arith}
 use Rattle.tally.specs.Tally.{count}
 use Rattle.tally.proofs.TallyLaws.{Once, count-none, count-one, span-in, span-past, span-once, bit-ne}
 use Rattle.tally.proofs.WayLaws.{count-find, count-some, count-two, count-another}
+use Rattle.rules.proofs.GridLaws.{solution-way, way-solution}
 use Rattle.rules.specs.Grid.{black, digits, Puzzle}
 use Rattle.rules.specs.Number.{symbols, grids, solves, number, unsolvable, unique, multiple, verdictOf, Solution}
 
@@ -20,19 +21,19 @@ module _ (p : Puzzle) (ms : List ℕ) where
   -- NONE
   pub none-zero : ((g : List ℕ) → Solution p ms g → ⊥) → number p ms ≡ 0
   unfolding number grids
-  none-zero h = count-none (symbols (p .size)) (p .size * p .size) (solves p ms) (λ g w t. h g (record { filled = w; right = t }))
+  none-zero h = count-none (symbols (p .size)) (p .size * p .size) (solves p ms) (λ g w t. h g (way-solution w t))
 
   -- where the number is not 0 there is a grid
   pub some-grid : 0 < number p ms → (g : List ℕ) × Solution p ms g
   unfolding number grids
   some-grid h =
-      let f = count-find (symbols (p .size)) (p .size * p .size) (solves p ms) h in (f .0, record { filled = f .1; right = f .2 })
+      let f = count-find (symbols (p .size)) (p .size * p .size) (solves p ms) h in (f .0, way-solution (f .1) (f .2))
 
   module _ (fits : p .size ≤ 9) where
     -- and where there is a grid the number is not 0
     pub grid-some : (g : List ℕ) → Solution p ms g → 0 < number p ms
     unfolding number grids
-    grid-some g s = count-some (symbols (p .size)) (symbols-once (p .size) fits) (p .size * p .size) (solves p ms) g (s .filled) (s .right)
+    grid-some g s = count-some (symbols (p .size)) (symbols-once (p .size) fits) (p .size * p .size) (solves p ms) g (solution-way s) (s .right)
 
     pub zero-none : number p ms ≡ 0 → (g : List ℕ) → Solution p ms g → ⊥
     zero-none e g s = omega (arith, grid-some g s)
@@ -41,19 +42,19 @@ module _ (p : Puzzle) (ms : List ℕ) where
     pub only-one : (g : List ℕ) → Solution p ms g → ((h : List ℕ) → Solution p ms h → h ≡ g) → number p ms ≡ 1
     unfolding number grids
     only-one g s u =
-        count-one (symbols (p .size)) (symbols-once (p .size) fits) (p .size * p .size) (solves p ms) g (s .filled) (s .right) (λ h w t. u h (record { filled = w; right = t }))
+        count-one (symbols (p .size)) (symbols-once (p .size) fits) (p .size * p .size) (solves p ms) g (solution-way s) (s .right) (λ h w t. u h (way-solution w t))
 
     -- SEVERAL
     pub two-several : (g h : List ℕ) → Solution p ms g → Solution p ms h → (h ≡ g → ⊥) → 2 ≤ number p ms
     unfolding number grids
     two-several g h s t d =
-        count-two (symbols (p .size)) (symbols-once (p .size) fits) (p .size * p .size) (solves p ms) g (s .filled) (s .right) h (t .filled) (t .right) d
+        count-two (symbols (p .size)) (symbols-once (p .size) fits) (p .size * p .size) (solves p ms) g (solution-way s) (s .right) h (solution-way t) (t .right) d
 
     pub several-two : (g : List ℕ) → Solution p ms g → 2 ≤ number p ms → (h : List ℕ) × Solution p ms h × (h ≡ g → ⊥)
     unfolding number grids
     several-two g s l =
-        let o = count-another (symbols (p .size)) (symbols-once (p .size) fits) (p .size * p .size) (solves p ms) g (s .filled) (s .right) l in
-        (o .0, record { filled = o .1; right = o .2 }, o .3)
+        let o = count-another (symbols (p .size)) (symbols-once (p .size) fits) (p .size * p .size) (solves p ms) g (solution-way s) (s .right) l in
+        (o .0, way-solution (o .1) (o .2), o .3)
 
 -- ---- the verdict is that of the number
 

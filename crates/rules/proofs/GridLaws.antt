@@ -5,11 +5,12 @@ use mathlib.Core.Bool.{Bool, true, _&&_}
 use mathlib.Core.List.{List, map, List·Memᴰ, Memᴰ·append-left, Memᴰ·append-right, Memᴰ·map}
 use native.Mathlib.Omega.{arith}
 use native.Mathlib.Nat.{mul-le-mul-right}
-use Rattle.tally.specs.Tally.{span, all, Way}
+use Rattle.tally.specs.Tally.{span, all}
+use Rattle.tally.specs.Way.{Way}
 use Rattle.tally.proofs.TallyLaws.{all-append, span-in, span-mem, span-length}
-use Rattle.tally.proofs.WayLaws.{all-each, all-of-map, way-cell, way-map}
+use Rattle.tally.proofs.WayLaws.{all-each, all-of-map, way-cell, way-map, way-in, in-way}
 use Rattle.rules.specs.Grid.{keepsLine, Line, across, down, index, line, lines, row, column, cell, Puzzle, target, keeps}
-use Rattle.rules.specs.Number.{symbols}
+use Rattle.rules.specs.Number.{symbols, grids, solves, Solution}
 
 -- a cell's place in the list of cells
 pub place-lt : (n r c : ℕ) → r < n → c < n → r * n + c < n * n
@@ -43,3 +44,13 @@ module _ (n : ℕ) (g : List ℕ) (w : Way (symbols n) (n * n) g) where
   line-way (down c) h =
       subst (λ k. Way (symbols n) k (column n g c)) (span-length 0 n)
       (way-map (λ r. cell n g r c) (span 0 n) (λ r m. let i = span-in 0 n r m in way-cell 0 w (r * n + c) (place-lt n r c (omega arith) h)))
+
+-- ---- a solution is a way that is right
+
+pub solution-way : {p : Puzzle} {ms g : List ℕ} → Solution p ms g → Way (symbols (p .size)) (p .size * p .size) g
+unfolding grids
+solution-way {p} s = in-way (symbols (p .size)) (p .size * p .size) (s .among)
+
+pub way-solution : {p : Puzzle} {ms g : List ℕ} → Way (symbols (p .size)) (p .size * p .size) g → solves p ms g ≡ true → Solution p ms g
+unfolding grids
+way-solution w e = record { among = way-in w; right = e }

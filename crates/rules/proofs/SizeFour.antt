@@ -7,7 +7,8 @@ use native.Mathlib.Omega.{arith}
 use lib.Dec.{eqb}
 use lib.ListN.{getD}
 use borrow.Author.Tests.{eqb-true}
-use Rattle.tally.specs.Tally.{all, count, sum, inFront, ways, span, Way}
+use Rattle.tally.specs.Tally.{all, count, sum, inFront, ways, span}
+use Rattle.tally.specs.Way.{Way}
 use Rattle.tally.proofs.TallyLaws.{and-left, count-none}
 use Rattle.tally.proofs.WayLaws.{all-ways}
 use Rattle.rules.specs.Grid.{isBlack, digits, lawful, untilBlack, inside, lineSum, meets, keepsLine, Puzzle, across, down, index, target, cell, row, column, line, keeps}

@@ -6,7 +6,8 @@ use mathlib.Core.Logic.{_⊎_, inl, inr, ⊎-elim}
 use mathlib.Core.List.{List, [], _∷_, map, List·Memᴰ, List·Memᴰ·head, List·Memᴰ·tail}
 use native.Mathlib.Omega.{arith}
 use native.Mathlib.Nat.{add-zero, mul-add-div-right, mul-add-mod-self-right, div-eq-of-lt, mod-eq-of-lt}
-use Rattle.tally.specs.Tally.{oneIf, count, span, Way}
+use Rattle.tally.specs.Tally.{oneIf, count, span}
+use Rattle.tally.specs.Way.{Way}
 use Rattle.tally.proofs.TallyLaws.{span-in, span-length, map-at, Once}
 use Rattle.tally.proofs.WayLaws.{way-map}
 use Rattle.rules.specs.Grid.{black, digits, Line, index, line, cell}

@@ -15,6 +15,7 @@ use Rattle.rules.specs.Mark.{rejects, markRow, markColumn, markValue, has, keep
 use Rattle.rules.specs.Number.{solves, number, Solution}
 use Rattle.rules.specs.Check.{refusal, named, checkMark}
 use Rattle.rules.specs.CheckParts.{markChecks}
+use Rattle.rules.proofs.GridLaws.{way-solution}
 use Rattle.rules.proofs.CheckLaws.{numbered, refusal-none, refusal-none-left, refusal-none-right}
 use Rattle.table.specs.Table.{Table, firstBlack, fits, left, inRow, inColumn}
 use Rattle.table.specs.Steps.{struck, taken, marked, markedAll}
@@ -111,7 +112,7 @@ module _ (p : Puzzle) (small : p .size ≤ 9) (t : Table) where
 
     pub within-solution : {u : Table} → Within (p .size) u (markedAll t ms) → (g : List ℕ) → GridOf p g → fits (p .size) u g ≡ true → Solution p ms g
     unfolding solves
-    within-solution w g d f = record { filled = d .filled; right = and-both (d .kept) (within-marks w g d f) }
+    within-solution w g d f = way-solution (d .filled) (and-both (d .kept) (within-marks w g d f))
 
 -- ---- which candidates marks leave
 

@@ -3,7 +3,8 @@ use Prim.Native.Nat.{ℕ, _*_, _≤_, _<_}
 use mathlib.Core.Path.{_≡_, refl, sym, ap, _∙_}
 use mathlib.Core.Bool.{Bool, true, false, _&&_, true≢false}
 use mathlib.Core.List.{List}
-use Rattle.tally.specs.Tally.{count, Way}
+use Rattle.tally.specs.Tally.{count}
+use Rattle.tally.specs.Way.{Way}
 use Rattle.tally.proofs.TallyLaws.{test-ext, count-ways}
 use Rattle.rules.specs.Grid.{Puzzle, keeps}
 use Rattle.rules.specs.Number.{symbols, grids}

@@ -10,7 +10,8 @@ use native.Mathlib.Decide.{ℕ-discrete}
 use lib.Dec.{eqb}
 use lib.ListN.{length, getD}
 use borrow.Author.Tests.{eqb-true, eq-eqb, ne-eqb}
-use Rattle.tally.specs.Tally.{oneIf, sum, all, any, count, inFront, ways, span, Way, done, put}
+use Rattle.tally.specs.Tally.{oneIf, sum, all, any, count, inFront, ways, span}
+use Rattle.tally.specs.Way.{Way, done, put}
 
 -- ---- tests
 

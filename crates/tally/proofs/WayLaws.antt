@@ -2,12 +2,14 @@
 use Prim.Native.Nat.{ℕ, zero, suc, _+_, _≤_, _<_}
 use mathlib.Core.Path.{_≡_, refl, sym, ap, ap₂, _∙_, subst}
 use mathlib.Core.Bool.{Bool, true, false, not, _&&_, true≢false}
-use mathlib.Core.List.{List, [], _∷_, map, List·Memᴰ, List·Memᴰ·head, List·Memᴰ·tail}
+use mathlib.Core.Logic.{⊎-elim}
+use mathlib.Core.List.{List, [], _∷_, map, List·Memᴰ, List·Memᴰ·head, List·Memᴰ·tail, List·Memᴰ·not-nil, List·Memᴰ·append-cases, List·Memᴰ·eq-of-singleton, Memᴰ·append-left, Memᴰ·append-right, Memᴰ·map, Memᴰ·cast}
 use native.Mathlib.Nat.{le-of-suc-le-suc, not-suc-le-zero}
 use native.Mathlib.Omega.{arith}
 use native.Mathlib.Decide.{decLt}
 use lib.ListN.{length, getD}
-use Rattle.tally.specs.Tally.{oneIf, sum, all, count, inFront, ways, Way, done, put}
+use Rattle.tally.specs.Tally.{oneIf, sum, all, count, inFront, ways}
+use Rattle.tally.specs.Way.{Way, done, put}
 use Rattle.tally.proofs.TallyLaws.{and-left, and-right, and-both, all-append, count-split, count-le, count-inFront, count-one, count-same, sameList, same-refl, same-eq, Once}
 
 module _ {A : Type 0} where
@@ -47,6 +49,39 @@ module _ {A : Type 0} where
   pub way-map : {B : Type 0} {s : List A} (f : B → A) (xs : List B) → ((x : B) → List·Memᴰ x xs → List·Memᴰ (f x) s) → Way s (length xs) (map f xs)
   way-map f [] h = done
   way-map f (x ∷ xs) h = put (h x (List·Memᴰ·head refl)) (way-map f xs (λ y m. h y (List·Memᴰ·tail m)))
+
+-- ---- a way is one of the ways
+
+module _ {A : Type 0} where
+  of-map : {B : Type 0} (f : B → A) (xs : List B) {x : A} → List·Memᴰ x (map f xs) → (y : B) × List·Memᴰ y xs × (x ≡ f y)
+  of-map f [] m = absurd (List·Memᴰ·not-nil m)
+  of-map f (y ∷ ys) (List·Memᴰ·head e) = (y, List·Memᴰ·head refl, e)
+  of-map f (y ∷ ys) (List·Memᴰ·tail m) = let r = of-map f ys m in (r .0, List·Memᴰ·tail (r .1), r .2)
+
+module _ {A : Type 0} where
+  in-front : {s : List A} {r : List (List A)} {c : A} {l : List A} → List·Memᴰ c s → List·Memᴰ l r → List·Memᴰ (c ∷ l) (inFront s r)
+  unfolding inFront
+  in-front {s = d ∷ s} {r} {c} {l} (List·Memᴰ·head e) m = Memᴰ·append-left (inFront s r) (Memᴰ·cast (ap (λ x. x ∷ l) e) (Memᴰ·map (λ l. d ∷ l) m))
+  in-front {s = d ∷ s} {r} (List·Memᴰ·tail k) m = Memᴰ·append-right (map (λ l. d ∷ l) r) (in-front k m)
+
+  of-front : (s : List A) (r : List (List A)) {x : List A} → List·Memᴰ x (inFront s r) → (c : A) × (l : List A) × List·Memᴰ c s × List·Memᴰ l r × (x ≡ c ∷ l)
+  unfolding inFront
+  of-front [] r m = absurd (List·Memᴰ·not-nil m)
+  of-front (d ∷ s) r m =
+      ⊎-elim
+      (λ k. let q = of-map (λ l. d ∷ l) r k in (d, q .0, List·Memᴰ·head refl, q .1, q .2))
+      (λ k. let q = of-front s r k in (q .0, q .1, List·Memᴰ·tail (q .2), q .3, q .4))
+      (List·Memᴰ·append-cases (map (λ l. d ∷ l) r) m)
+
+  pub way-in : {s : List A} {k : ℕ} {x : List A} → Way s k x → List·Memᴰ x (ways s k)
+  unfolding ways
+  way-in done = List·Memᴰ·head refl
+  way-in (put m w) = in-front m (way-in w)
+
+  pub in-way : (s : List A) (k : ℕ) {x : List A} → List·Memᴰ x (ways s k) → Way s k x
+  unfolding ways
+  in-way s zero m = subst (Way s zero) (sym (List·Memᴰ·eq-of-singleton m)) done
+  in-way s (suc k) m = let q = of-front s (ways s k) m in subst (Way s (suc k)) (sym (q .4)) (put (q .2) (in-way s k (q .3)))
 
 -- ---- finding a way, one or two
 

@@ -1,7 +1,8 @@
 -- Lists: tests of all elements, counting, and all ways to fill some places. Assumes nothing.
 use Prim.Native.Nat.{ℕ, zero, suc, _+_}
 use mathlib.Core.Bool.{Bool, true, false, _&&_, _||_, cond}
-use mathlib.Core.List.{List, [], _∷_, _++_, map, List·Memᴰ}
+use mathlib.Core.List.{List, [], _∷_, _++_, map}
+use Rattle.tally.specs.Way.{put}
 
 -- the numbers from a on, k of them
 unfoldable pub span : ℕ → ℕ → List ℕ
@@ -36,11 +37,6 @@ module _ {A : Type 0} where
   unfoldable pub ways : List A → ℕ → List (List A)
   ways s zero = [] ∷ []
   ways s (suc k) = inFront s (ways s k)
-
-  -- x is a way to put a value of s into each of k places
-  pub data Way (s : List A) : ℕ → List A → Type 0 where
-    done : Way s zero []
-    put : {c : A} {k : ℕ} {x : List A} → List·Memᴰ c s → Way s k x → Way s (suc k) (c ∷ x)
 
   -- the elements that pass the test
   unfoldable pub keep : (A → Bool) → List A → List A

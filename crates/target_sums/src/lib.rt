@@ -147,7 +147,8 @@ fn sums_refusal(n: usize, cells: &[u8], rows: usize, columns: usize) -> u8
 
 // The target sums of the cells, rows then columns, written where nothing is refused.
 pub fn compute_targets(size: usize, cells: &[u8], rows: &mut [u8], columns: &mut [u8]) -> Summed
-    ensures { λ r. ⌜ SumsAnswered (targetSums size (now (cells .entry)) (now (rows .entry)) (now (columns .entry))) r (now (rows .exit)) (now (columns .exit)) ⌝ }
+    ensures { λ r. ⌜ SumsAnswered (targetSums size (now (cells .entry)) (now (rows .entry)) (now (columns .entry)))
+        r (now (rows .exit)) (now (columns .exit)) ⌝ }
 {
     let k = sums_refusal(size, cells, rows.len(), columns.len());
     if k != 0 {

@@ -7,10 +7,12 @@ use native.Mathlib.Omega.{arith}
 use lib.ListN.{length, take, drop, length-take, length-drop}
 use lib.Seq.{take-all}
 use borrow.Author.Tests.{eq-eqb, ne-eqb, le-leb}
-use Rattle.tally.specs.Tally.{all, join, Way, done, put}
+use Rattle.tally.specs.Tally.{all, join}
+use Rattle.tally.specs.Way.{Way, done, put}
 use Rattle.tally.proofs.TallyLaws.{span-in, and-both}
 use Rattle.rules.specs.Grid.{digits, Puzzle, puzzle}
 use Rattle.rules.specs.Mark.{marksOf}
+use Rattle.rules.proofs.GridLaws.{solution-way}
 use Rattle.rules.specs.Check.{refusal, puzzleChecks, countChecks, solveChecks}
 use Rattle.rules.specs.Number.{symbols, number, Verdict, unsolvable, unique, multiple, verdictOf, Solution}
 use Rattle.rules.proofs.SizeLaws.{size-in}
@@ -88,7 +90,7 @@ module _ {n : ℕ} {ts : List ℕ} {room : ℕ} {answer : Solved} {cells cells�
       record {
         size = z .high;
         square = long ∙ a .square;
-        cells = λ e. let q = shows (refusal (puzzleChecks p)) (number p []) (sym (ap showsGrid is) ∙ e) in way-shown n (z .high) (solution (q .0) (q .1) .filled);
+        cells = λ e. let q = shows (refusal (puzzleChecks p)) (number p []) (sym (ap showsGrid is) ∙ e) in way-shown n (z .high) (solution-way (solution (q .0) (q .1)));
         fits = a .fits;
       }
 
