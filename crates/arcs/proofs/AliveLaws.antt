@@ -8,6 +8,7 @@ use native.Mathlib.Decide.{ℕ-discrete, decLt}
 use native.Mathlib.Nat.{le-trans}
 use Rattle.bits.proofs.SumLaws.{same-no, sum-same, sum-has}
 use Rattle.rules.specs.Size.{Size}
+use Rattle.slab.specs.Layout.{perLine}
 use Rattle.slab.specs.Slab.{cand, tail, lag, Grown}
 use Rattle.slab.proofs.SlabLaws.{cand-lt}
 use Rattle.slab.proofs.StruckLaws.{grown-refl, grown-trans, grown-gone}
@@ -61,7 +62,7 @@ alive-next {n} {ℓ} {id} {l} {h} {x} {v} nx hv k f p u hp hu e = go (f p u hp h
 
 -- ---- a line that is as it was
 
-pub tallied-same : {n m len : ℕ} {l l′ : List ℕ} → Grown l l′ → ((j : ℕ) → j < 78 → live l′ m j ≡ live l m j) →
+pub tallied-same : {n m len : ℕ} {l l′ : List ℕ} → Grown l l′ → ((j : ℕ) → j < perLine → live l′ m j ≡ live l m j) →
     ((p v : ℕ) → p < 9 → v < 16 → support l′ (m * 9 + p) v ≡ support l (m * 9 + p) v) → Size n → Tallied n m len l → Tallied n m len l′
 tallied-same {n} {m} {len} {l} {l′} g e s z t =
     record {
@@ -74,7 +75,7 @@ tallied-same {n} {m} {len} {l} {l′} g e s z t =
       backed = λ p v a b c d. grown-gone g (cellAt m p) v b (t .backed p v a b c (sym (s p v (omega (arith, z .high)) b) ∙ d));
     }
 
-pub all-alive-same : (n m h : ℕ) {l l′ : List ℕ} → Grown l l′ → h ≤ tail l → Same m l l′ → lives l m ≤ 78 → AllAlive n m l h → AllAlive n m l′ h
+pub all-alive-same : (n m h : ℕ) {l l′ : List ℕ} → Grown l l′ → h ≤ tail l → Same m l l′ → lives l m ≤ perLine → AllAlive n m l h → AllAlive n m l′ h
 unfolding AllAlive
 all-alive-same n m h {l} {l′} g b s c f j k =
     subst (Alive n m l′ h) (sym (s .list j (omega (arith, s .count)))) (alive-kept n m (live l m j) h g b (f j (omega (arith, s .count))))
@@ -116,7 +117,7 @@ within-trans {n} {ℓ} {a} {b} {c} z o s t =
 -- ---- candidates that hold each other
 
 -- a line that is as it was, in a table that has them
-pub holding-same : {n m : ℕ} {l l′ : List ℕ} {K : ℕ → ℕ → Bool} → Same m l l′ → lives l m ≤ 78 → ((x v : ℕ) → v < 16 → K x v ≡ true → cand l′ x v ≡ 1) →
+pub holding-same : {n m : ℕ} {l l′ : List ℕ} {K : ℕ → ℕ → Bool} → Same m l l′ → lives l m ≤ perLine → ((x v : ℕ) → v < 16 → K x v ≡ true → cand l′ x v ≡ 1) →
     Holding n m (lives l m) l K → Holding n m (lives l′ m) l′ K
 holding-same {n} {m} {l} {l′} {K} s c h g =
     record {
@@ -128,7 +129,7 @@ holding-same {n} {m} {l} {l′} {K} s c h g =
     }
 
 -- a dead arrangement that leaves is none of those that hold them
-pub holding-drop : {n ℓ i m len : ℕ} {l l′ : List ℕ} {K : ℕ → ℕ → Bool} → Size n → len ≤ 78 → len ≡ m + 1 → i ≤ m → DeadArrangement n ℓ l (live l ℓ i) →
+pub holding-drop : {n ℓ i m len : ℕ} {l l′ : List ℕ} {K : ℕ → ℕ → Bool} → Size n → len ≤ perLine → len ≡ m + 1 → i ≤ m → DeadArrangement n ℓ l (live l ℓ i) →
     Removed n ℓ i m l l′ →
     Holding n ℓ len l K → Holding n ℓ m l′ K
 unfolding Held

@@ -7,6 +7,7 @@ use native.Mathlib.Omega.{arith}
 use native.Mathlib.Decide.{ℕ-discrete, decLt}
 use lib.ListN.{length}
 use borrow.Author.Tests.{lt-ltb, le-ltb}
+use Rattle.slab.specs.Layout.{slabSize}
 use Rattle.slab.specs.Slab.{cand, tail}
 use Rattle.slab.proofs.StruckLaws.{grown-gone}
 use Rattle.slab.proofs.ReadyLaws.{ready-grown, next-grown}
@@ -136,7 +137,7 @@ module _ {n : ℕ} {ws l : List ℕ} {r c v : ℕ} (a : ArcAsk n ws l r c v) whe
     one-tallied : (m : ℕ) → LineOf n m → Tallied n m (lives l₁ m) l₁
     one-tallied = arc-next d .tallied
 
-    long : length l₁ ≡ 5599
+    long : length l₁ ≡ slabSize
     long = d .grown .size ∙ a .ready .sized .size
 
     two-tallied : (m : ℕ) → LineOf n m → Tallied n m (lives l₂ m) l₂

@@ -9,6 +9,7 @@ use native.Mathlib.Decide.{ℕ-discrete}
 use native.Mathlib.Nat.{le-trans}
 use lib.ListN.{length, getD, List·getD-eq-default}
 use Rattle.rules.specs.Size.{Size}
+use Rattle.slab.specs.Layout.{slabSize}
 use Rattle.slab.specs.Slab.{cand, tail, Grown}
 use Rattle.slab.proofs.SlabLaws.{cand-lt}
 use Rattle.slab.proofs.StruckLaws.{grown-trans}
@@ -21,7 +22,7 @@ use Rattle.arcs.specs.Sweep.{untouched, AllAlive, Same, LineDone}
 
 -- ---- one line is handled
 
-module _ {n ℓ p v : ℕ} {l l′ : List ℕ} (z : Size n) (long : length l ≡ 5599) (of : LineOf n ℓ) (t : (m : ℕ) → LineOf n m → Tallied n m (lives l m) l)
+module _ {n ℓ p v : ℕ} {l l′ : List ℕ} (z : Size n) (long : length l ≡ slabSize) (of : LineOf n ℓ) (t : (m : ℕ) → LineOf n m → Tallied n m (lives l m) l)
     (d : LineDone n ℓ p v l l′) where
   other : (m : ℕ) → LineOf n m → (m ≡ ℓ → ⊥) → Same m l l′
   other m o e = d .others m (line-in z o) e
@@ -55,7 +56,7 @@ module _ {n ℓ p v : ℕ} {l l′ : List ℕ} (z : Size n) (long : length l ≡
         struck = d .struck;
       }
     where
-      same : (k : ℕ) → 5599 ≤ k → getD l′ k 0 ≡ getD l k 0
+      same : (k : ℕ) → slabSize ≤ k → getD l′ k 0 ≡ getD l k 0
       same k b = List·getD-eq-default l′ 0 (omega (arith, d .grown .size)) ∙ sym (List·getD-eq-default l 0 (omega arith))
 
       fewer : (m : ℕ) → LineOf n m → Dec (m ≡ ℓ) → (j : ℕ) → j < lives l m → Listed m (lives l′ m) l′ (live l m j) ⊎ DeadArrangement n m l′ (live l m j)

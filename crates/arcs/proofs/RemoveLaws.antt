@@ -1,7 +1,6 @@
 -- One arrangement leaves a line. Assumes nothing.
 use Prim.Native.Nat.{ℕ, _+_, _*_, _/_, _%_, _≤_, _<_}
 use mathlib.Core.Path.{_≡_, sym, ap, _∙_, subst}
-use mathlib.Core.Logic.{⊎-elim}
 use mathlib.Core.List.{List}
 use native.Mathlib.Omega.{arith}
 use native.Mathlib.Decide.{ℕ-discrete, decLt}
@@ -10,6 +9,7 @@ use Rattle.bits.specs.Sum.{sumOver}
 use Rattle.bits.proofs.SumLaws.{sum-has, same-yes, same-no}
 use Rattle.live_list.specs.Swap.{exchanged}
 use Rattle.live_list.proofs.SwapLaws.{exchanged-here, exchanged-other}
+use Rattle.slab.specs.Layout.{countersAt, perLine, livePlace, supportPlace, slabSize}
 use Rattle.slab.specs.Slab.{cand, Grown}
 use Rattle.slab.proofs.StruckLaws.{grown-trans, grown-sized, grown-gone, set-cand, set-grown}
 use Rattle.words.specs.Word.{Known, wordOf, part}
@@ -24,21 +24,21 @@ use Rattle.arcs.specs.Sweep.{RemoveAsk, UnsupportedIn, LineMoved, Remove
 
 module _ {n ℓ start stride first i len w : ℕ} {l : List ℕ} (a : RemoveAsk n ℓ start stride first i len w l) where
   -- the code's indices
-  pub remove-bounds : (ℓ < 18) × (len < 78) × (length l ≡ 5599)
+  pub remove-bounds : (ℓ < 18) × (len < perLine) × (length l ≡ slabSize)
   remove-bounds = (line-in (a .ready .size) (a .of), omega (arith, a .tallied .room), a .ready .sized .size)
 
-  among : i < 78
+  among : i < perLine
   among = omega (arith, a .listed, remove-bounds .1)
 
   here : ℕ
-  here = 1603 + ℓ * 78 + i
+  here = livePlace ℓ i
 
   last : ℕ
-  last = 1603 + ℓ * 78 + len
+  last = livePlace ℓ len
 
-  here-low : (here ≤ last) × (last < 3007)
+  in-state : (here < slabSize) × (last < slabSize)
   unfolding here last
-  here-low = (omega (arith, a .listed), omega (arith, remove-bounds .1, remove-bounds .0))
+  in-state = (omega (arith, among, remove-bounds .0), omega (arith, remove-bounds .1, remove-bounds .0))
 
   l₁ : List ℕ
   l₁ = exchanged l here last
@@ -67,8 +67,12 @@ module _ {n ℓ start stride first i len w : ℕ} {l : List ℕ} (a : RemoveAsk 
   unfolding l₁
   far k d e = exchanged-other l here last k d e
 
-  support₁ : (y v : ℕ) → support l₁ y v ≡ support l y v
-  support₁ y v = far (3007 + y * 16 + v) (λ e. omega (arith, here-low)) (λ e. omega (arith, here-low))
+  no-support : (j : ℕ) → j < perLine → (y v : ℕ) → y < 162 → v < 16 → (livePlace ℓ j ≡ supportPlace y v → ⊥)
+  no-support j h y v p q e = omega (arith, remove-bounds .0)
+
+  support₁ : (y v : ℕ) → y < 162 → v < 16 → support l₁ y v ≡ support l y v
+  unfolding here last
+  support₁ y v p q = far (supportPlace y v) (λ e. no-support i among y v p q (sym e)) (λ e. no-support len (remove-bounds .1) y v p q (sym e))
 
   tally : (p v : ℕ) → p < 9 → v < 16 → support l (ℓ * 9 + p) v ≡ sumOver 0 (len + 1) (f p v)
   unfolding f
@@ -88,7 +92,7 @@ module _ {n ℓ start stride first i len w : ℕ} {l : List ℕ} (a : RemoveAsk 
         shaped = rw (a .word) (known-shaped n (live l ℓ i) (a .ready .size) leaving);
         enough = λ q v h k. omega (
           arith,
-          support₁ (ℓ * 9 + q) v,
+          support₁ (ℓ * 9 + q) v (omega (arith, remove-bounds .0)) k,
           leaves q v,
           tally q v h k,
           sum-has 0 (len + 1) i (f q v) (omega arith)
@@ -96,11 +100,11 @@ module _ {n ℓ start stride first i len w : ℕ} {l : List ℕ} (a : RemoveAsk 
         );
       }
 
-  pub remove-kill : {l₂ : List ℕ} → l₂ ≡ exchanged l (1603 + ℓ * 78 + i) (1603 + ℓ * 78 + len) → KillAsk n ℓ start stride first w l₂
+  pub remove-kill : {l₂ : List ℕ} → l₂ ≡ exchanged l (livePlace ℓ i) (livePlace ℓ len) → KillAsk n ℓ start stride first w l₂
   unfolding l₁ here last
   remove-kill e = subst (KillAsk n ℓ start stride first w) (sym e) kills
 
-  module _ {l₂ l′ : List ℕ} (left : l₂ ≡ exchanged l (1603 + ℓ * 78 + i) (1603 + ℓ * 78 + len)) (killed : Sunk (parts ℓ w) l₂ l′) where
+  module _ {l₂ l′ : List ℕ} (left : l₂ ≡ exchanged l (livePlace ℓ i) (livePlace ℓ len)) (killed : Sunk (parts ℓ w) l₂ l′) where
     s : Sunk (parts ℓ w) l₁ l′
     unfolding l₁ here last
     s = subst (λ k. Sunk (parts ℓ w) k l′) left killed
@@ -108,21 +112,21 @@ module _ {n ℓ start stride first i len w : ℕ} {l : List ℕ} (a : RemoveAsk 
     grown : Grown l l′
     grown = grown-trans grown₁ (s .grown)
 
-    stay : (k : ℕ) → 973 ≤ k → k < 3007 → (k ≡ here → ⊥) → (k ≡ last → ⊥) → getD l′ k 0 ≡ getD l k 0
+    stay : (k : ℕ) → countersAt ≤ k → ((y v : ℕ) → y < 162 → v < 16 → (k ≡ supportPlace y v → ⊥)) → (k ≡ here → ⊥) → (k ≡ last → ⊥) → getD l′ k 0 ≡ getD l k 0
     stay k p q d e = s .rest k p q ∙ far k d e
 
     falls : (y v : ℕ) → y < 162 → v < 16 → support l′ y v + parts ℓ w y v ≡ support l y v
-    falls y v p q = s .falls y v p q ∙ support₁ y v
+    falls y v p q = s .falls y v p q ∙ support₁ y v p q
 
     live-here : live l′ ℓ i ≡ live l ℓ len
     unfolding here last l₁
     live-here =
-        s .rest here (omega arith) (omega (arith, here-low))
-        ∙ exchanged-here l here last (omega (arith, here-low, a .ready .sized .size)) (omega (arith, here-low, a .ready .sized .size))
+        s .rest here (omega arith) (no-support i among)
+        ∙ exchanged-here l here last (omega (arith, in-state, a .ready .sized .size)) (omega (arith, in-state, a .ready .sized .size))
 
     live-other : (j : ℕ) → j < len → (j ≡ i → ⊥) → live l′ ℓ j ≡ live l ℓ j
     unfolding here last
-    live-other j h d = stay (1603 + ℓ * 78 + j) (omega arith) (omega (arith, here-low)) (λ e. d (omega arith)) (λ e. omega arith)
+    live-other j h d = stay (livePlace ℓ j) (omega arith) (no-support j (omega (arith, remove-bounds .1))) (λ e. d (omega arith)) (λ e. omega arith)
 
     slot-falls : (p v : ℕ) → p < 9 → v < 16 → support l′ (ℓ * 9 + p) v + f p v i ≡ support l (ℓ * 9 + p) v
     slot-falls p v h k =
@@ -188,7 +192,7 @@ module _ {n ℓ start stride first i len w : ℕ} {l : List ℕ} (a : RemoveAsk 
     new-within =
         record {
           grown = grown;
-          rest = λ k p q o. stay k p q (⊎-elim (λ b e. omega arith) (λ b e. omega (arith, among)) o) (⊎-elim (λ b e. omega arith) (λ b e. omega (arith, remove-bounds .1)) o);
+          rest = λ k p o q. stay k p q (o i among) (o len (remove-bounds .1));
           others = λ y v p q d. omega (arith, falls y v p q, same-no (y / 9) ℓ d);
           sinks = λ y v p q. omega (arith, falls y v p q);
           struck = new-struck;

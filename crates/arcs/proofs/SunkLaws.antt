@@ -8,6 +8,7 @@ use lib.ListN.{getD, set}
 use lib.Seq.{getD-set-same, getD-set-other}
 use borrow.Author.Tests.{lt-ltb, le-ltb}
 use Rattle.bits.proofs.SumLaws.{same-yes, same-no}
+use Rattle.slab.specs.Layout.{countersAt, supportPlace}
 use Rattle.slab.specs.Slab.{cand, Sized, Grown, Struck, One, CounterAsk}
 use Rattle.slab.proofs.SlabLaws.{cand-lt}
 use Rattle.slab.proofs.StruckLaws.{grown-refl, grown-trans, grown-sized, grown-gone, set-cand, set-grown}
@@ -96,12 +97,12 @@ sunk-both {D} {E} {a} {b} {c} s t =
 
 module _ {l : List ℕ} {place cell v : ℕ} (a : DropAsk l place cell v) where
   index : ℕ
-  index = 3007 + place * 16 + v
+  index = supportPlace place v
 
   k : ℕ
   k = getD l index 0 - 1
 
-  pub drop-countable : CounterAsk l (3007 + place * 16 + v)
+  pub drop-countable : CounterAsk l (supportPlace place v)
   drop-countable = record { size = a .sized .size; from = omega arith; to = omega (arith, a .within, a .value); positive = a .positive }
 
   low-grown : Grown l (set l index k)
@@ -112,8 +113,8 @@ module _ {l : List ℕ} {place cell v : ℕ} (a : DropAsk l place cell v) where
   unfolding index k
   low-falls y u p q = go (ℕ-discrete y place) (ℕ-discrete u v)
     where
-      other : (3007 + y * 16 + u ≡ 3007 + place * 16 + v → ⊥) → support (set l index k) y u ≡ support l y u
-      other d = getD-set-other l index (3007 + y * 16 + u) k 0 d
+      other : (supportPlace y u ≡ supportPlace place v → ⊥) → support (set l index k) y u ≡ support l y u
+      other d = getD-set-other l index (supportPlace y u) k 0 d
 
       go : Dec (y ≡ place) → Dec (u ≡ v) → support (set l index k) y u + single place v y u ≡ support l y u
       go (yes e) (yes f) =
@@ -123,9 +124,9 @@ module _ {l : List ℕ} {place cell v : ℕ} (a : DropAsk l place cell v) where
       go (yes e) (no f) = omega (arith, other (λ g. f (omega (arith, a .value))), same-no u v f)
       go (no e) f = omega (arith, other (λ g. e (omega (arith, a .value))), same-no y place e)
 
-  low-rest : (i : ℕ) → 973 ≤ i → i < 3007 → getD (set l index k) i 0 ≡ getD l i 0
+  low-rest : (i : ℕ) → countersAt ≤ i → ((y v : ℕ) → y < 162 → v < 16 → (i ≡ supportPlace y v → ⊥)) → getD (set l index k) i 0 ≡ getD l i 0
   unfolding index
-  low-rest i p q = getD-set-other l index i k 0 (λ e. omega arith)
+  low-rest i p q = getD-set-other l index i k 0 (q place v (a .within) (a .value))
 
   -- the support is not 0 yet
   drop-kept : (support (set l index k) place v ≡ 0 → ⊥) → Sunk (single place v) l (set l index k)
@@ -160,12 +161,12 @@ module _ {l : List ℕ} {place cell v : ℕ} (a : DropAsk l place cell v) where
               within = a .within;
               there = w .0 ∙ a .there;
               fell = omega (arith, same-yes place place refl, same-yes u v (w .1));
-              none = s .rest (3007 + place * 16 + u) (omega arith) ∙ ap (λ t. support (set l index k) place t) (w .1) ∙ z;
+              none = s .rest (supportPlace place u) (omega arith) ∙ ap (λ t. support (set l index k) place t) (w .1) ∙ z;
             };
       }
     where
       same-here : (y u : ℕ) → support l′ y u + single place v y u ≡ support (set l index k) y u + single place v y u
-      same-here y u = ap (λ t. t + single place v y u) (s .rest (3007 + y * 16 + u) (omega arith))
+      same-here y u = ap (λ t. t + single place v y u) (s .rest (supportPlace y u) (omega arith))
 
       back : (y u : ℕ) → 0 < single place v y u → Dec (y ≡ place) → Dec (u ≡ v) → cand l′ (cellOfPlace y) u ≡ 0
       back y u f (yes e) (yes g) = rw (e, g) (s .gone (cellOfPlace place) v (a .value) (sym (a .there), refl))
@@ -173,8 +174,8 @@ module _ {l : List ℕ} {place cell v : ℕ} (a : DropAsk l place cell v) where
       back y u f (no e) g = absurd (omega (arith, same-no y place e))
 
   -- as the code does it: r is what is left, in the state l₁
-  module _ {l₁ : List ℕ} {r : ℕ} (e : (r ≡ getD l (3007 + place * 16 + v) 0 - 1)
-      × (l₁ ≡ set l (3007 + place * 16 + v) (getD l (3007 + place * 16 + v) 0 - 1))) where
+  module _ {l₁ : List ℕ} {r : ℕ} (e : (r ≡ getD l (supportPlace place v) 0 - 1)
+      × (l₁ ≡ set l (supportPlace place v) (getD l (supportPlace place v) 0 - 1))) where
     left-is : support (set l index k) place v ≡ r
     unfolding index k
     left-is = getD-set-same l index k 0 (omega (arith, a .sized .size, a .within, a .value)) ∙ sym (e .0)

@@ -5,10 +5,11 @@ use mathlib.Core.Logic.{_⊎_, inl, inr}
 use mathlib.Core.Bool.{Bool}
 use mathlib.Core.List.{List}
 use native.Mathlib.Omega.{arith}
-use native.Mathlib.Decide.{ℕ-discrete, decLt}
+use native.Mathlib.Decide.{ℕ-discrete}
 use lib.ListN.{length, getD, set}
 use lib.Seq.{getD-set-same, getD-set-other}
 use Rattle.rules.specs.Size.{Size}
+use Rattle.slab.specs.Layout.{lengthPlace, perLine, livePlace, supportPlace, slabSize}
 use Rattle.slab.specs.Slab.{cand, Sized, Grown}
 use Rattle.slab.proofs.StruckLaws.{grown-refl, grown-trans, set-cand, set-grown}
 use Rattle.slab.proofs.ReadyLaws.{ready-grown, next-grown}
@@ -46,7 +47,7 @@ module _ {n ℓ start stride first p v : ℕ} {ws l₀ : List ℕ} (a : SweepAsk
     pub sweep-ready : Ready n l
     sweep-ready = ready-grown (s .within .grown) (a .ready)
 
-    pub sweep-bounds : (len ≤ 78) × (length l ≡ 5599)
+    pub sweep-bounds : (len ≤ perLine) × (length l ≡ slabSize)
     sweep-bounds = (s .tallied .room, sweep-ready .sized .size)
 
     next : (h : ℕ) → Next l₀ h (cellAt ℓ p) v → Next l h (cellAt ℓ p) v
@@ -151,35 +152,32 @@ module _ {n ℓ start stride first p v : ℕ} {ws l₀ : List ℕ} (a : SweepAsk
 
   module _ {l : List ℕ} {len : ℕ} (s : Swept n ℓ p v l₀ l len) where
     l′ : List ℕ
-    l′ = set l (1585 + ℓ) len
+    l′ = set l (lengthPlace ℓ) len
 
     sized : Sized l
     sized = sweep-ready s .sized
 
     grown : Grown l l′
     unfolding l′
-    grown = set-grown l (1585 + ℓ) len sized (omega arith)
+    grown = set-grown l (lengthPlace ℓ) len sized (omega arith)
 
-    far : (k : ℕ) → (k ≡ 1585 + ℓ → ⊥) → getD l′ k 0 ≡ getD l k 0
+    far : (k : ℕ) → (k ≡ lengthPlace ℓ → ⊥) → getD l′ k 0 ≡ getD l k 0
     unfolding l′
-    far k d = getD-set-other l (1585 + ℓ) k len 0 d
+    far k d = getD-set-other l (lengthPlace ℓ) k len 0 d
 
     count : lives l′ ℓ ≡ len
     unfolding l′
-    count = getD-set-same l (1585 + ℓ) len 0 (omega (arith, sized .size, sweep-line))
+    count = getD-set-same l (lengthPlace ℓ) len 0 (omega (arith, sized .size, sweep-line))
 
     list : (j : ℕ) → live l′ ℓ j ≡ live l ℓ j
-    list j = far (1603 + ℓ * 78 + j) (λ e. omega (arith, sweep-line))
+    list j = far (livePlace ℓ j) (λ e. omega (arith, sweep-line))
 
     tally : (y u : ℕ) → support l′ y u ≡ support l y u
-    tally y u = far (3007 + y * 16 + u) (λ e. omega (arith, sweep-line))
-
-    apart : (m j : ℕ) → j < 78 → (m ≡ ℓ → ⊥) → (1603 + m * 78 + j < 1603 + ℓ * 78) ⊎ (1681 + ℓ * 78 ≤ 1603 + m * 78 + j)
-    apart m j h d = elim (decLt m ℓ) [ yes b ↦ inl (omega arith) | no b ↦ inr (omega arith) ]
+    tally y u = far (supportPlace y u) (λ e. omega (arith, sweep-line))
 
     same-cand : (x u : ℕ) → cand l′ x u ≡ cand l x u
     unfolding l′
-    same-cand x u = set-cand l (1585 + ℓ) len sized (omega arith) x u
+    same-cand x u = set-cand l (lengthPlace ℓ) len sized (omega arith) x u
 
     hold : (K : ℕ → ℕ → Bool) → Holding n ℓ len l K → Holding n ℓ (lives l′ ℓ) l′ K
     hold K g =
@@ -191,17 +189,17 @@ module _ {n ℓ start stride first p v : ℕ} {ws l₀ : List ℕ} (a : SweepAsk
               (w .0, omega (arith, w .1, count), subst (λ id. part (blackAt ℓ) (wordOf n id) q u ≡ 1) o (w .2), subst (Held n ℓ K) o (w .3));
         }
 
-    pub line-swept : LineDone n ℓ p v l₀ (set l (1585 + ℓ) len)
+    pub line-swept : LineDone n ℓ p v l₀ (set l (lengthPlace ℓ) len)
     unfolding l′ Fewer Older AllAlive
     line-swept =
         record {
           grown = grown-trans (s .within .grown) grown;
-          rest = λ k b c. far k (λ e. omega arith) ∙ s .within .rest k b (omega arith) (inl (omega arith));
+          rest = λ k b c. far k (λ e. omega arith) ∙ s .within .rest k b (λ j h e. omega arith) (λ y u h i e. omega arith);
           others = λ m h d.
               record {
-                count = far (1585 + m) (λ e. d (omega arith)) ∙ s .within .rest (1585 + m) (omega arith) (omega arith) (inl (omega arith));
-                list = λ j b. far (1603 + m * 78 + j) (λ e. omega (arith, sweep-line))
-                    ∙ s .within .rest (1603 + m * 78 + j) (omega arith) (omega arith) (apart m j b d);
+                count = far (lengthPlace m) (λ e. d (omega arith)) ∙ s .within .rest (lengthPlace m) (omega arith) (λ j i e. omega arith) (λ y u i g e. omega arith);
+                list = λ j b. far (livePlace m j) (λ e. omega (arith, sweep-line))
+                    ∙ s .within .rest (livePlace m j) (omega arith) (λ i g e. d (omega arith)) (λ y u i g e. omega arith);
                 tally = λ q u b c. tally (m * 9 + q) u ∙ s .within .others (m * 9 + q) u (omega arith) c (λ e. d (omega arith));
               };
           sinks = λ y u b c. omega (arith, tally y u, s .within .sinks y u b c);

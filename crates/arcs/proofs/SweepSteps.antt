@@ -12,6 +12,7 @@ use Rattle.bits.specs.Sum.{same}
 use Rattle.bits.proofs.SumLaws.{same-yes, same-no}
 use Rattle.slab.proofs.StruckLaws.{grown-gone}
 use Rattle.words.specs.Word.{wordOf, part}
+use Rattle.slab.specs.Layout.{perLine, slabSize}
 use Rattle.arcs.specs.Arc.{cellAt, blackAt, HalfOf, live}
 use Rattle.arcs.proofs.KillLaws.{black-low}
 use Rattle.arcs.proofs.WalkLaws.{placed-small}
@@ -47,7 +48,7 @@ module _ {n ℓ start stride first p v : ℕ} {ws l₀ : List ℕ} (a : SweepAsk
       record { size = a .ready .sized .size; high = a .ready .size .high; narrow = a .narrow; cells = λ q h. placed-small (a .placed) q h }
 
   module _ {l : List ℕ} {i len : ℕ} (s : Sweeping n ℓ p v l₀ l i len) (b : i < len) where
-    pub sweep-read : (ℓ < 18) × (i < 78) × (length l ≡ 5599) × (live l ℓ i < length ws)
+    pub sweep-read : (ℓ < 18) × (i < perLine) × (length l ≡ slabSize) × (live l ℓ i < length ws)
     sweep-read =
         (sweep-line a, omega (arith, sweep-bounds a s .0), sweep-bounds a s .1, omega (arith, sweep-known a s b .within, a .words .size))
 

@@ -10,6 +10,7 @@ use Rattle.bits.specs.Sum.{sumOver}
 use Rattle.rules.specs.Grid.{Line, across, down}
 use Rattle.table.specs.Table.{places}
 use Rattle.table.specs.Closed.{place, allows}
+use Rattle.slab.specs.Layout.{lengthsAt, lengthPlace, perLine, livePlace, supportPlace, slabSize}
 use Rattle.slab.specs.Slab.{cand, lag, tableIn}
 use Rattle.slab.specs.Ready.{Ready, Next, Moved}
 use Rattle.table.specs.Value.{ValueOf}
@@ -40,19 +41,19 @@ HalfOf k v = (v < 8) ⊎ ((k ≤ v) × (v < k + 2))
 -- ---- the counters: how many arrangements of line ℓ are live, which they are, and how many of them have the value v at place p: support l (ℓ * 9 + p) v
 
 abbrev pub lives : List ℕ → ℕ → ℕ
-lives l ℓ = getD l (1585 + ℓ) 0
+lives l ℓ = getD l (lengthPlace ℓ) 0
 
 abbrev pub live : List ℕ → ℕ → ℕ → ℕ
-live l ℓ j = getD l (1603 + ℓ * 78 + j) 0
+live l ℓ j = getD l (livePlace ℓ j) 0
 
 abbrev pub support : List ℕ → ℕ → ℕ → ℕ
-support l y v = getD l (3007 + y * 16 + v) 0
+support l y v = getD l (supportPlace y v) 0
 
 -- ---- the arrangements of a line
 
 -- The first len of its list are known, its supports are their tally, and a candidate of its half without support is struck.
 pub record Tallied (n ℓ len : ℕ) (l : List ℕ) : Type 0 where
-  pub room : len ≤ 78
+  pub room : len ≤ perLine
   pub known : (j : ℕ) → j < len → Known n (live l ℓ j)
   pub supports : (p v : ℕ) → p < 9 → v < 16 → support l (ℓ * 9 + p) v ≡ sumOver 0 len (λ (j : ℕ). part (blackAt ℓ) (wordOf n (live l ℓ j)) p v)
   pub backed : (p v : ℕ) → p < n → v < 16 → HalfOf (blackAt ℓ) v → support l (ℓ * 9 + p) v ≡ 0 → cand l (cellAt ℓ p) v ≡ 0
@@ -120,7 +121,7 @@ pub record Unsupported (n : ℕ) (l : List ℕ) (x v : ℕ) : Type 0 where
 
 -- From l to l′ arrangements died, and candidates were struck that had no support left.
 pub record Pruned (n : ℕ) (l l′ : List ℕ) : Type 0 where
-  pub moved : Moved l l′ 1585 5599
+  pub moved : Moved l l′ lengthsAt slabSize
   pub sinks : (y v : ℕ) → y < 162 → v < 16 → support l′ y v ≤ support l y v
   pub fewer : (ℓ : ℕ) → LineOf n ℓ → Fewer n ℓ (lives l ℓ) l (lives l′ ℓ) l′
   pub older : (ℓ : ℕ) → LineOf n ℓ → Older ℓ (lives l ℓ) l (lives l′ ℓ) l′

@@ -8,11 +8,12 @@ use lib.Bits.{bitAnd, bitOr}
 use lib.ListN.{length, getD}
 use Rattle.bits.specs.Bit.{bit}
 use Rattle.words.specs.Word.{setOf, coveredOf}
+use Rattle.slab.specs.Layout.{slabSize}
 use lib.Dec.{eqb}
 
 -- A line of n places, from its start on.
 pub record HaveAsk (n start stride v : ℕ) (l : List ℕ) : Type 0 where
-  pub size : length l ≡ 5599
+  pub size : length l ≡ slabSize
   pub high : n ≤ 9
   pub narrow : v < 16
   pub cells : (q : ℕ) → q < 9 → start + q * stride < 81

@@ -5,6 +5,7 @@ use mathlib.Core.List.{List}
 use lib.ListN.{getD}
 use Rattle.bits.specs.Bit.{bit}
 use Rattle.bits.specs.Sum.{same}
+use Rattle.slab.specs.Layout.{countersAt, supportPlace}
 use Rattle.slab.specs.Slab.{cand, Sized, Grown}
 use Rattle.arcs.specs.Arc.{cellAt, support}
 
@@ -23,7 +24,7 @@ pub record Lost (D : ℕ → ℕ → ℕ) (l : List ℕ) (x v : ℕ) : Type 0 wh
 -- The support of each place y and value v falls by D y v, a candidate whose support falls to 0 is struck, and nothing else moves.
 pub record Sunk (D : ℕ → ℕ → ℕ) (l l′ : List ℕ) : Type 0 where
   pub grown : Grown l l′
-  pub rest : (i : ℕ) → 973 ≤ i → i < 3007 → getD l′ i 0 ≡ getD l i 0
+  pub rest : (i : ℕ) → countersAt ≤ i → ((y v : ℕ) → y < 162 → v < 16 → (i ≡ supportPlace y v → ⊥)) → getD l′ i 0 ≡ getD l i 0
   pub falls : (y v : ℕ) → y < 162 → v < 16 → support l′ y v + D y v ≡ support l y v
   pub backed : (y v : ℕ) → y < 162 → v < 16 → 0 < D y v → support l′ y v ≡ 0 → cand l′ (cellOfPlace y) v ≡ 0
   pub only : (x v : ℕ) → v < 16 → cand l x v ≡ 1 → cand l′ x v ≡ 0 → Lost D l′ x v

@@ -1,10 +1,10 @@
 -- A sweep over the live arrangements of one line. Assumes nothing.
 use Prim.Native.Nat.{ℕ, _+_, _*_, _/_, _≤_, _<_}
 use mathlib.Core.Path.{_≡_}
-use mathlib.Core.Logic.{_⊎_}
 use mathlib.Core.Bool.{Bool}
 use mathlib.Core.List.{List}
 use lib.ListN.{getD}
+use Rattle.slab.specs.Layout.{countersAt, lengthsAt, perLine, livePlace, supportPlace}
 use Rattle.slab.specs.Slab.{cand, Grown}
 use Rattle.slab.specs.Ready.{Ready, Next}
 use Rattle.words.specs.Word.{wordOf, part, Words}
@@ -33,7 +33,8 @@ pub record UnsupportedIn (n ℓ : ℕ) (l : List ℕ) (x v : ℕ) : Type 0 where
 -- Besides the list and the supports of line ℓ nothing moves but strikes, supports only fall, and what is struck has none.
 pub record LineMoved (n ℓ : ℕ) (l l′ : List ℕ) : Type 0 where
   pub grown : Grown l l′
-  pub rest : (k : ℕ) → 973 ≤ k → k < 3007 → (k < 1603 + ℓ * 78) ⊎ (1681 + ℓ * 78 ≤ k) → getD l′ k 0 ≡ getD l k 0
+  pub rest : (k : ℕ) → countersAt ≤ k → ((j : ℕ) → j < perLine → (k ≡ livePlace ℓ j → ⊥)) →
+      ((y v : ℕ) → y < 162 → v < 16 → (k ≡ supportPlace y v → ⊥)) → getD l′ k 0 ≡ getD l k 0
   pub others : (y v : ℕ) → y < 162 → v < 16 → (y / 9 ≡ ℓ → ⊥) → support l′ y v ≡ support l y v
   pub sinks : (y v : ℕ) → y < 162 → v < 16 → support l′ y v ≤ support l y v
   pub struck : (x v : ℕ) → v < 16 → cand l x v ≡ 1 → cand l′ x v ≡ 0 → UnsupportedIn n ℓ l′ x v
@@ -93,12 +94,12 @@ Swept n ℓ p v l₀ l len = Sweeping n ℓ p v l₀ l len len
 -- The list and supports of line m are as they were.
 pub record Same (m : ℕ) (l l′ : List ℕ) : Type 0 where
   pub count : lives l′ m ≡ lives l m
-  pub list : (j : ℕ) → j < 78 → live l′ m j ≡ live l m j
+  pub list : (j : ℕ) → j < perLine → live l′ m j ≡ live l m j
   pub tally : (p v : ℕ) → p < 9 → v < 16 → support l′ (m * 9 + p) v ≡ support l (m * 9 + p) v
 
 pub record LineDone (n ℓ p v : ℕ) (l l′ : List ℕ) : Type 0 where
   pub grown : Grown l l′
-  pub rest : (k : ℕ) → 973 ≤ k → k < 1585 → getD l′ k 0 ≡ getD l k 0
+  pub rest : (k : ℕ) → countersAt ≤ k → k < lengthsAt → getD l′ k 0 ≡ getD l k 0
   pub others : (m : ℕ) → m < 18 → (m ≡ ℓ → ⊥) → Same m l l′
   pub sinks : (y u : ℕ) → y < 162 → u < 16 → support l′ y u ≤ support l y u
   pub struck : (x u : ℕ) → u < 16 → cand l x u ≡ 1 → cand l′ x u ≡ 0 → Unsupported n l′ x u

@@ -2,6 +2,7 @@
 ghost use mathlib.Core.Path.{_≡_};
 ghost use Prim.Native.Nat.{_≤_, _<_};
 ghost use lib.ListN.{length, getD};
+ghost use Rattle.slab.specs.Layout.{perLine, slabSize};
 ghost use Rattle.words.specs.Word.{after};
 ghost use Rattle.arcs.specs.Kill.{parts, inners, InnerAsk, KillAsk};
 ghost use Rattle.arcs.specs.Arc.{live, ArcAsk, ArcDone};
@@ -94,16 +95,16 @@ fn remove(
     requires { ⌜ RemoveAsk n line start stride first i len w (now st) ⌝ }
     ensures { λ _. ⌜ Removed n line i len (now (st .entry)) (now (st .exit)) ⌝ }
 {
-    live_list::remove(st, Slab::LIVE + line * 78, i, len);
+    live_list::remove(st, Slab::LIVE + line * Slab::PER_LINE, i, len);
     kill(st, n, line, start, stride, first, w);
 }
 
 // The word of arrangement i of a line's list.
 fn word_at(st: &[u16], words: &[u32], line: usize, i: usize) -> u32
-    requires { ⌜ (line < 18) × (i < 78) × (length (now st) ≡ 5599) × (live (now st) line i < length (now words)) ⌝ }
+    requires { ⌜ (line < 18) × (i < perLine) × (length (now st) ≡ slabSize) × (live (now st) line i < length (now words)) ⌝ }
     ensures { λ r. ⌜ r ≡ getD (now (words .entry)) (live (now (st .entry)) line i) 0 ⌝ }
 {
-    words[wide(st[Slab::LIVE + line * 78 + i])]
+    words[wide(st[Slab::LIVE + line * Slab::PER_LINE + i])]
 }
 
 // The bits of a digit and of an inner place.

@@ -5,6 +5,7 @@ use pick::Pick;
 use pick::pick_branch;
 use propagate::propagate;
 use set_cell::set_cell;
+use slab::Slab;
 use slab::clear_value;
 use written::write_grid;
 ghost use mathlib.Core.Path.{_≡_};
@@ -80,7 +81,7 @@ pub fn search(
                 return found + settle(st, n, true, is_first(wanted, found), cells);
             }
             Next::Branch(cell, v) => {
-                let mut other = [0u16; 5599];
+                let mut other = [0u16; Slab::SIZE];
                 copy(st, &mut other);
                 set_cell(&mut other, n, cell / 9, cell % 9, v);
                 found += search(

@@ -2,6 +2,7 @@
 use engine::solve_refusal;
 use prepare::prepare;
 use propagate::propagate;
+use slab::Slab;
 use written::write_candidates;
 ghost use lib.ListN.{length};
 ghost use Rattle.rules.specs.Mark.{marksOf};
@@ -20,7 +21,7 @@ fn write_table(n: usize, rows: &[u8], columns: &[u8], marks: &[u8], table: &mut 
     requires { ⌜ SolveAsk (puzzle n (now rows) (now columns)) (marksOf (now marks)) (length (now table)) ⌝ }
     ensures { λ r. ⌜ Tabled (puzzle n (now (rows .entry)) (now (columns .entry))) (marksOf (now (marks .entry))) r (now (table .entry)) (now (table .exit)) ⌝ }
 {
-    let mut st = [0u16; 5599];
+    let mut st = [0u16; Slab::SIZE];
     let mut words = [0u32; 1152];
     let prepared = prepare(&mut st, &mut words, n, rows, columns, marks);
     if !prepared {

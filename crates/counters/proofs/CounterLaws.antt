@@ -9,6 +9,7 @@ use lib.ListN.{getD, set}
 use lib.Seq.{getD-set-same, getD-set-other}
 use Rattle.bits.specs.Sum.{sumOver, same}
 use Rattle.bits.proofs.SumLaws.{same-yes, same-no, sum-same, sum-add, sum-one, sum-le, sum-has}
+use Rattle.slab.specs.Layout.{countersAt}
 use Rattle.slab.specs.Slab.{cand, tail, entry, waits, lag, Sized, Grown, Struck, CounterAsk}
 use Rattle.slab.proofs.StruckLaws.{grown-refl, grown-trans, set-grown}
 use Rattle.slab.proofs.ReadyLaws.{lag-pop, lag-rest}
@@ -24,7 +25,7 @@ fell-lower {l} {l′} {p} s a e = rw e (record {
   rest = λ q h d. getD-set-other l p q (getD l p 0 - 1) 0 d;
 })
 
-pub fell-struck : {l l₁ l₂ : List ℕ} {p : ℕ} {Hit : ℕ → ℕ → Type 0} → 973 ≤ p → Fell l l₁ p → Struck l₁ l₂ Hit → Fell l l₂ p
+pub fell-struck : {l l₁ l₂ : List ℕ} {p : ℕ} {Hit : ℕ → ℕ → Type 0} → countersAt ≤ p → Fell l l₁ p → Struck l₁ l₂ Hit → Fell l l₂ p
 fell-struck {p = p} h f s =
     record {
       grown = grown-trans (f .grown) (s .grown);
@@ -62,7 +63,7 @@ next-valid {n} {h} {x} {v} {l} r k m =
 -- ---- what a family has to show once
 
 pub record Fine (F : Fam) (Rule : List ℕ → ℕ → Type 0) : Type 0 where
-  pub from : 973 ≤ F .base
+  pub from : countersAt ≤ F .base
   pub within : (n i : ℕ) → n ≤ 9 → F .used n i → i < F .size
   pub narrow : (i j : ℕ) → i < F .size → j < F .n → F .value i j < 16
   pub once : (i j i′ j′ : ℕ) → i < F .size → j < F .n → i′ < F .size → j′ < F .n → F .cell i j ≡ F .cell i′ j′ → F .value i j ≡ F .value i′ j′ → (i ≡ i′) ×

@@ -10,6 +10,7 @@ use lib.Dec.{ltb, leb}
 use borrow.Author.Tests.{lt-ltb, le-ltb, le-leb, ltb-true, leb-true}
 use Rattle.rules.specs.Grid.{Line, across, down}
 use Rattle.tally.proofs.TallyLaws.{or-split}
+use Rattle.slab.specs.Layout.{countersAt, rowHalfAt, placesAt, rowBlacksAt, lengthsAt}
 use Rattle.slab.specs.Slab.{tail, Grown}
 use Rattle.slab.proofs.SlabLaws.{cand-lt}
 use Rattle.slab.proofs.StruckLaws.{grown-gone}
@@ -93,7 +94,7 @@ fine-halves ℓ =
       down = all-set-down (halves ℓ) (λ i j a b. omega (arith, value-narrow ℓ j (omega arith)));
     }
   where
-    from : (ℓ : Line) → 973 ≤ halvesBase ℓ
+    from : (ℓ : Line) → countersAt ≤ halvesBase ℓ
     from (across r) = omega arith
     from (down c) = omega arith
 
@@ -112,11 +113,11 @@ fine-places ℓ =
       down = all-set-down (linePlaces ℓ) (λ i j a b. omega arith);
     }
   where
-    from : (ℓ : Line) → 973 ≤ placesBase ℓ
+    from : (ℓ : Line) → countersAt ≤ placesBase ℓ
     from (across r) = omega arith
     from (down c) = omega arith
 
-pub black-range : (ℓ : Line) → (1423 ≤ blacksBase ℓ) × (blacksBase ℓ + 81 ≤ 1585) × (ownBlack ℓ < 11) × (crossBlack ℓ < 11)
+pub black-range : (ℓ : Line) → (rowBlacksAt ≤ blacksBase ℓ) × (blacksBase ℓ + 81 ≤ lengthsAt) × (ownBlack ℓ < 11) × (crossBlack ℓ < 11)
 black-range (across r) = omega arith
 black-range (down c) = omega arith
 
@@ -142,21 +143,21 @@ module _ {n a b h : ℕ} {l l′ : List ℕ} (z : n ≤ 9) (m : Moved l l′ a b
   pub black-moved : (ℓ : Line) → (blacksBase ℓ + 81 ≤ a) ⊎ (b ≤ blacksBase ℓ) → BlacksOf ℓ n l h → BlacksOf ℓ n l′ h
   black-moved ℓ d w = ruled-moved (cellBlacks ℓ) 0 (NoBlacks (crossBlack ℓ)) (fine-blacks ℓ) n z m d k w
 
-  pub halves-moved : (1135 ≤ a) ⊎ (b ≤ 973) → Halves n l h → Halves n l′ h
+  pub halves-moved : (placesAt ≤ a) ⊎ (b ≤ rowHalfAt) → Halves n l h → Halves n l′ h
   halves-moved d w =
       record {
         rows = half-moved (across 0) (⊎-elim (λ x. inl (omega arith)) (λ x. inr (omega arith)) d) (w .rows);
         columns = half-moved (down 0) (⊎-elim (λ x. inl (omega arith)) (λ x. inr (omega arith)) d) (w .columns);
       }
 
-  pub places-moved : (1423 ≤ a) ⊎ (b ≤ 1135) → LinePlaces n l h → LinePlaces n l′ h
+  pub places-moved : (rowBlacksAt ≤ a) ⊎ (b ≤ placesAt) → LinePlaces n l h → LinePlaces n l′ h
   places-moved d w =
       record {
         rows = place-moved (across 0) (⊎-elim (λ x. inl (omega arith)) (λ x. inr (omega arith)) d) (w .rows);
         columns = place-moved (down 0) (⊎-elim (λ x. inl (omega arith)) (λ x. inr (omega arith)) d) (w .columns);
       }
 
-  pub blacks-moved : (1585 ≤ a) ⊎ (b ≤ 1423) → Blacks n l h → Blacks n l′ h
+  pub blacks-moved : (lengthsAt ≤ a) ⊎ (b ≤ rowBlacksAt) → Blacks n l h → Blacks n l′ h
   blacks-moved d w =
       record {
         rows = black-moved (across 0) (⊎-elim (λ x. inl (omega arith)) (λ x. inr (omega arith)) d) (w .rows);

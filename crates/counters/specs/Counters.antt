@@ -10,6 +10,7 @@ use Rattle.bits.specs.Sum.{sumOver}
 use Rattle.rules.specs.Grid.{Line, across, down}
 use Rattle.rules.specs.Mark.{leftBlack, upperBlack}
 use Rattle.table.specs.Table.{inColumn, inRow}
+use Rattle.slab.specs.Layout.{countersAt, rowHalfAt, colHalfAt, placesAt, rowBlacksAt, colBlacksAt}
 use Rattle.slab.specs.Slab.{cand, lag, Grown}
 use Rattle.table.specs.Value.{ValueOf}
 use Rattle.set_cell.specs.Setting.{SetHit}
@@ -33,7 +34,7 @@ pub record Ruled (F : Fam) (low : ℕ) (Rule : List ℕ → ℕ → Type 0) (n :
 pub record Fell (l l′ : List ℕ) (p : ℕ) : Type 0 where
   pub grown : Grown l l′
   pub here : getD l′ p 0 + 1 ≡ getD l p 0
-  pub rest : (q : ℕ) → 973 ≤ q → q ≢ p → getD l′ q 0 ≡ getD l q 0
+  pub rest : (q : ℕ) → countersAt ≤ q → q ≢ p → getD l′ q 0 ≡ getD l q 0
 
 -- ---- rules
 
@@ -71,12 +72,12 @@ placeOf (across r) k j = k * 9 + j
 placeOf (down c) k j = j * 9 + k
 
 abbrev pub halvesBase : Line → ℕ
-halvesBase (across r) = 973
-halvesBase (down c) = 1054
+halvesBase (across r) = rowHalfAt
+halvesBase (down c) = colHalfAt
 
 abbrev pub placesBase : Line → ℕ
-placesBase (across r) = 1135
-placesBase (down c) = 1279
+placesBase (across r) = placesAt
+placesBase (down c) = placesAt + 9 * 16
 
 -- How many candidates the half of a cell has.
 abbrev pub halves : Line → Fam
@@ -96,8 +97,8 @@ linePlaces ℓ =
 
 -- How many of a line's blacks a cell has; its first black, and that of the line across it.
 abbrev pub blacksBase : Line → ℕ
-blacksBase (across r) = 1423
-blacksBase (down c) = 1504
+blacksBase (across r) = rowBlacksAt
+blacksBase (down c) = colBlacksAt
 
 abbrev pub ownBlack : Line → ℕ
 ownBlack (across r) = leftBlack

@@ -3,6 +3,7 @@ use backtrack::search;
 use mark_list::marks_refusal;
 use prepare::prepare;
 use puzzle::puzzle_refusal;
+use slab::Slab;
 ghost use mathlib.Core.Path.{_≡_};
 ghost use Rattle.rules.specs.Mark.{marksOf};
 ghost use lib.ListN.{length};
@@ -39,7 +40,7 @@ fn count_grids(n: usize, rows: &[u8], columns: &[u8], marks: &[u8], cap: u64) ->
     requires { ⌜ CountAsk (puzzle n (now rows) (now columns)) (marksOf (now marks)) ⌝ }
     ensures { λ r. ⌜ r ≡ capped cap (puzzle n (now (rows .entry)) (now (columns .entry))) (marksOf (now (marks .entry))) ⌝ }
 {
-    let mut st = [0u16; 5599];
+    let mut st = [0u16; Slab::SIZE];
     let mut words = [0u32; 1152];
     if !prepare(&mut st, &mut words, n, rows, columns, marks) {
         return 0;
@@ -75,7 +76,7 @@ fn solve_grids(n: usize, rows: &[u8], columns: &[u8], marks: &[u8], cells: &mut 
     requires { ⌜ SolveAsk (puzzle n (now rows) (now columns)) (marksOf (now marks)) (length (now cells)) ⌝ }
     ensures { λ r. ⌜ Found (puzzle n (now (rows .entry)) (now (columns .entry))) (marksOf (now (marks .entry))) r (now (cells .entry)) (now (cells .exit)) ⌝ }
 {
-    let mut st = [0u16; 5599];
+    let mut st = [0u16; Slab::SIZE];
     let mut words = [0u32; 1152];
     if !prepare(&mut st, &mut words, n, rows, columns, marks) {
         return 0;

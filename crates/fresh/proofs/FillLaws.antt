@@ -10,6 +10,7 @@ use lib.Seq.{getD-set-same, getD-set-other}
 use borrow.Author.Tests.{lt-ltb, le-ltb}
 use Rattle.table.specs.Table.{everyValue}
 use Rattle.value.specs.Mask.{maskOf}
+use Rattle.slab.specs.Layout.{rowHalfAt, rowBlacksAt, lengthsAt, slabSize}
 use Rattle.fresh.specs.Fresh.{Filled, Blank, cellIn, RowsFull, Fresh}
 
 pub fill-start : (l : List ℕ) (from k : ℕ) → Filled l l from from k
@@ -32,8 +33,8 @@ zero-at zero p = refl
 zero-at (suc n) zero = refl
 zero-at (suc n) (suc p) = zero-at n p
 
-pub blank-zeros : Blank (replicate 5599 0)
-blank-zeros = record { size = length-replicate {A = ℕ} 5599 0; zero = zero-at 5599 }
+pub blank-zeros : Blank (replicate slabSize 0)
+blank-zeros = record { size = length-replicate {A = ℕ} slabSize 0; zero = zero-at slabSize }
 
 module _ (n full : ℕ) where
   -- a row more: a place in it, another one
@@ -80,7 +81,7 @@ module _ (n full : ℕ) where
           split : (x : ℕ) → (x / 9 ≡ m → ⊥) → (x < m * 9) ⊎ (m * 9 + n ≤ x)
           split x e = elim (decLt x (m * 9)) [ yes q ↦ inl q | no q ↦ inr (omega arith) ]
 
-pub fresh-done : {n m : ℕ} {a b c : List ℕ} → RowsFull a n n (maskOf (everyValue n)) → Filled a b 973 1423 m → m ≡ n → Filled b c 1423 1585 2 → Fresh n c
+pub fresh-done : {n m : ℕ} {a b c : List ℕ} → RowsFull a n n (maskOf (everyValue n)) → Filled a b rowHalfAt rowBlacksAt m → m ≡ n → Filled b c rowBlacksAt lengthsAt 2 → Fresh n c
 fresh-done {n} {m} {a} {b} {c} r f e g =
     record {
       size = g .size ∙ f .size ∙ r .size;

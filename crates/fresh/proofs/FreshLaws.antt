@@ -21,6 +21,7 @@ use Rattle.bits.specs.Bit.{bit}
 use Rattle.bits.specs.Sum.{sumOver}
 use Rattle.bits.proofs.SumLaws.{sum-same}
 use Rattle.bits.proofs.BitLaws.{bit-none}
+use Rattle.slab.specs.Layout.{queueRoom, tailAt}
 use Rattle.slab.specs.Slab.{cand, tail, waits, lag, candidatesLeft}
 use Rattle.slab.proofs.SlabLaws.{cand-in, cand-out}
 use Rattle.slab.specs.Ready.{Valid, Ready}
@@ -34,7 +35,7 @@ fullCand n x v = bit v (cellIn n n (maskOf (everyValue n)) x)
 -- ---- computed at each size
 
 room-test : ℕ → Bool
-room-test n = leb (sumOver 0 1296 (λ (k : ℕ). fullCand n (k / 16) (k % 16))) 891
+room-test n = leb (sumOver 0 1296 (λ (k : ℕ). fullCand n (k / 16) (k % 16))) queueRoom
 
 room-right : all room-test (span 2 8) ≡ true
 unfolding room-test fullCand cellIn maskOf everyValue half digits span all sumOver bit tally.sum
@@ -78,7 +79,7 @@ module _ {n : ℕ} {l : List ℕ} (s : Size n) (f : Fresh n l) where
   fresh-cand x v h = cand-in l x v h ∙ ap (bit v) (f .cells x h)
 
   pub fresh-tail : tail l ≡ 0
-  fresh-tail = f .queue 972 (omega arith) (omega arith)
+  fresh-tail = f .queue tailAt (omega arith) (omega arith)
 
   pub fresh-lag : (x v : ℕ) → lag l 0 x v ≡ cand l x v
   unfolding lag waits sumOver
@@ -109,11 +110,11 @@ module _ {n : ℕ} {l : List ℕ} (s : Size n) (f : Fresh n l) where
       let k : x < 81 = omega (arith, a .row, s .high) in
       fresh-cand x v k ∙ rw (lt-ltb (x / 9) n (a .row), lt-ltb (x % 9) n (a .column)) (full-bit n v s h ∙ rw (value-named n v (a .value)))
 
-  fresh-room : candidatesLeft l ≤ 891
+  fresh-room : candidatesLeft l ≤ queueRoom
   unfolding candidatesLeft room-test
   fresh-room =
       let e = sum-same 0 1296 (λ (k : ℕ). cand l (k / 16) (k % 16)) (λ (k : ℕ). fullCand n (k / 16) (k % 16)) (λ k p q. fresh-cand (k / 16) (k % 16) (omega arith)) in
-      omega (arith, leb-true (sumOver 0 1296 (λ (k : ℕ). fullCand n (k / 16) (k % 16))) 891 (at-size room-test room-right n s))
+      omega (arith, leb-true (sumOver 0 1296 (λ (k : ℕ). fullCand n (k / 16) (k % 16))) queueRoom (at-size room-test room-right n s))
 
   pub fresh-ready : Ready n l
   fresh-ready =

@@ -26,6 +26,7 @@ use Rattle.set_cell.proofs.SetLaws.{yes-table, no-table}
 use Rattle.set_cell.proofs.SettingLaws.{or-right}
 use Rattle.counters.proofs.Lines.{in-half}
 use Rattle.bits.proofs.SumLaws.{sum-same}
+use Rattle.slab.specs.Layout.{countersAt, lengthsAt, lengthPlace, livePlace, supportPlace}
 use Rattle.slab.specs.Slab.{cand, tableIn, tail, lag, Grown, Struck, One}
 use Rattle.slab.proofs.SlabLaws.{cand-lt}
 use Rattle.slab.proofs.ReadyLaws.{ready-grown}
@@ -129,20 +130,20 @@ fits-cand p z g d l f x v h e =
 
 -- ---- steps that leave the arrangements alone
 
--- Nothing from 1585 on moves, and the table only shrinks.
+-- Nothing from the lengths of the lists on moves, and the table only shrinks.
 pub record Shrunk (l l′ : List ℕ) : Type 0 where
-  pub rest : (q : ℕ) → 1585 ≤ q → getD l′ q 0 ≡ getD l q 0
+  pub rest : (q : ℕ) → lengthsAt ≤ q → getD l′ q 0 ≡ getD l q 0
   pub sub : (x v : ℕ) → v < 16 → cand l′ x v ≤ cand l x v
 
 module _ {l l′ : List ℕ} (s : Shrunk l l′) where
   lives-same : (ℓ : ℕ) → lives l′ ℓ ≡ lives l ℓ
-  lives-same ℓ = s .rest (1585 + ℓ) (omega arith)
+  lives-same ℓ = s .rest (lengthPlace ℓ) (omega arith)
 
   live-same : (ℓ j : ℕ) → live l′ ℓ j ≡ live l ℓ j
-  live-same ℓ j = s .rest (1603 + ℓ * 78 + j) (omega arith)
+  live-same ℓ j = s .rest (livePlace ℓ j) (omega arith)
 
   support-same : (y v : ℕ) → support l′ y v ≡ support l y v
-  support-same y v = s .rest (3007 + y * 16 + v) (omega arith)
+  support-same y v = s .rest (supportPlace y v) (omega arith)
 
   tallied-same : {n ℓ : ℕ} → Tallied n ℓ (lives l ℓ) l → Tallied n ℓ (lives l′ ℓ) l′
   tallied-same {n} {ℓ} t =
@@ -183,8 +184,8 @@ module _ {l l′ : List ℕ} (s : Shrunk l l′) where
             };
       }
 
--- counters below 1585 move, and strikes are made
-module _ {l l′ : List ℕ} {a b : ℕ} (m : Moved l l′ a b) (low : b ≤ 1585) where
+-- counters before the lengths of the lists move, and strikes are made
+module _ {l l′ : List ℕ} {a b : ℕ} (m : Moved l l′ a b) (low : b ≤ lengthsAt) where
   above : Shrunk l l′
   above = record { rest = λ q h. m .rest q (omega arith) (inr (omega arith)); sub = m .grown .sub }
 
@@ -200,7 +201,7 @@ module _ {l l′ : List ℕ} {a b : ℕ} (m : Moved l l′ a b) (low : b ≤ 158
 -- ---- strikes alone
 
 pub kept-struck : {p : Puzzle} {l l′ : List ℕ} {Hit : ℕ → ℕ → Type 0} → p .size ≤ 9 → Struck l l′ Hit → Kept p l → Kept p l′
-kept-struck {l = l} {l′ = l′} z s k = let m : Moved l l′ 973 973 = moved-struck s in kept-moved m (omega arith) z k
+kept-struck {l = l} {l′ = l′} z s k = let m : Moved l l′ countersAt countersAt = moved-struck s in kept-moved m (omega arith) z k
 
 pub occupied-grown : (n h : ℕ) {l l′ : List ℕ} → Grown l l′ → h ≤ tail l → Occupied n l h → Occupied n l′ h
 unfolding Occupied
@@ -209,7 +210,7 @@ occupied-grown n h g k f x a b = let o = f x a b in (o .0, o .1, omega (arith, g
 pub lagging-struck : {n : ℕ} {l l′ : List ℕ} {h : ℕ} {Hit : ℕ → ℕ → Type 0} → Struck l l′ Hit → Lagging n l h → Lagging n l′ h
 lagging-struck {n} {l} {l′} {h} s g =
     let z = g .ready .size .high in
-    let m : Moved l l′ 973 973 = moved-struck s in
+    let m : Moved l l′ countersAt countersAt = moved-struck s in
     let c = g .counted in
     record {
       ready = ready-grown (s .grown) (g .ready);

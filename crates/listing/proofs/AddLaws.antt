@@ -18,6 +18,7 @@ use Rattle.words.proofs.FillLaws.{top-is}
 use Rattle.words.proofs.PatternLaws.{part-lt}
 use Rattle.words.proofs.WordLaws.{known-shaped}
 use Rattle.arcs.specs.Arc.{blackAt, lives, live, support}
+use Rattle.slab.specs.Layout.{lengthPlace, perLine, livePlace, supportPlace}
 use Rattle.listing.specs.Numbers.{scan, onSide, startsFrom, ofSize, sideFrom, sideOf}
 use Rattle.listing.specs.Listing.{listOf, Raised, WordAsk, Added, AddAsk, Adding, StartsAsk}
 
@@ -131,23 +132,23 @@ black-in ℓ = go (ltb ℓ 9)
 
 -- the list is one longer
 abbrev pub appended : ℕ → List ℕ → ℕ → ℕ → List ℕ
-appended ℓ l len id = set (set l (1603 + ℓ * 78 + len) id) (1585 + ℓ) (len + 1)
+appended ℓ l len id = set (set l (livePlace ℓ len) id) (lengthPlace ℓ) (len + 1)
 
 pub joined-length : (ℓ : ℕ) (l : List ℕ) (len id : ℕ) → length (appended ℓ l len id) ≡ length l
 joined-length ℓ l len id = simp length-set
 
 module _ {n ℓ k : ℕ} {ws l : List ℕ} (id : ℕ) (a : AddAsk n ℓ k ws l (id ∷ [])) (y : Known n id) (len : ℕ) (e : len ≡ lives l ℓ) where
-  other : (q : ℕ) → (q ≡ 1603 + ℓ * 78 + len → ⊥) → (q ≡ 1585 + ℓ → ⊥) → getD (appended ℓ l len id) q 0 ≡ getD l q 0
-  other q x z = getD-set-other (set l (1603 + ℓ * 78 + len) id) (1585 + ℓ) q (len + 1) 0 z ∙ getD-set-other l (1603 + ℓ * 78 + len) q id 0 x
+  other : (q : ℕ) → (q ≡ livePlace ℓ len → ⊥) → (q ≡ lengthPlace ℓ → ⊥) → getD (appended ℓ l len id) q 0 ≡ getD l q 0
+  other q x z = getD-set-other (set l (livePlace ℓ len) id) (lengthPlace ℓ) q (len + 1) 0 z ∙ getD-set-other l (livePlace ℓ len) q id 0 x
 
-  room : len < 78
+  room : len < perLine
   room = omega (arith, a .room)
 
   word : getD ws id 0 ≡ wordOf n id
   word = a .words .each id y
 
   support-still : (p v : ℕ) → p < 9 → v < 16 → support (appended ℓ l len id) (ℓ * 9 + p) v ≡ support l (ℓ * 9 + p) v
-  support-still p v h i = other (3007 + (ℓ * 9 + p) * 16 + v) (λ x. omega (arith, room, a .line)) (λ x. omega (arith, a .line))
+  support-still p v h i = other (supportPlace (ℓ * 9 + p) v) (λ x. omega (arith, room, a .line)) (λ x. omega (arith, a .line))
 
   -- its pattern can be added to the supports
   pub add-ask : WordAsk n ℓ k (getD ws id 0) (appended ℓ l len id)
@@ -163,22 +164,20 @@ module _ {n ℓ k : ℕ} {ws l : List ℕ} (id : ℕ) (a : AddAsk n ℓ k ws l (
       }
 
   module _ {l₃ : List ℕ} (r : Raised ℓ (appended ℓ l len id) l₃ (part k (getD ws id 0))) where
-    kept : (q : ℕ) → q < 3007 + ℓ * 144 → getD l₃ q 0 ≡ getD (appended ℓ l len id) q 0
-    kept q h = r .rest q (λ x z. omega arith)
-
     lives-now : lives l₃ ℓ ≡ len + 1
     lives-now =
-        kept (1585 + ℓ) (omega arith)
-        ∙ getD-set-same (set l (1603 + ℓ * 78 + len) id) (1585 + ℓ) (len + 1) 0 (simp length-set (omega (arith, a .long, a .line)))
+        r .rest (lengthPlace ℓ) (λ p v b c x. omega (arith, a .line))
+        ∙ getD-set-same (set l (livePlace ℓ len) id) (lengthPlace ℓ) (len + 1) 0 (simp length-set (omega (arith, a .long, a .line)))
 
     last-now : live l₃ ℓ len ≡ id
     last-now =
-        kept (1603 + ℓ * 78 + len) (omega (arith, room, a .line))
-        ∙ getD-set-other (set l (1603 + ℓ * 78 + len) id) (1585 + ℓ) (1603 + ℓ * 78 + len) (len + 1) 0 (λ x. omega (arith, a .line))
-        ∙ getD-set-same l (1603 + ℓ * 78 + len) id 0 (omega (arith, a .long, a .line, room))
+        r .rest (livePlace ℓ len) (λ p v b c x. omega (arith, room, a .line))
+        ∙ getD-set-other (set l (livePlace ℓ len) id) (lengthPlace ℓ) (livePlace ℓ len) (len + 1) 0 (λ x. omega (arith, a .line))
+        ∙ getD-set-same l (livePlace ℓ len) id 0 (omega (arith, a .long, a .line, room))
 
     old-now : (j : ℕ) → j < len → live l₃ ℓ j ≡ live l ℓ j
-    old-now j h = kept (1603 + ℓ * 78 + j) (omega (arith, room, a .line)) ∙ other (1603 + ℓ * 78 + j) (λ x. omega arith) (λ x. omega (arith, a .line))
+    old-now j h =
+        r .rest (livePlace ℓ j) (λ p v b c x. omega (arith, room, a .line)) ∙ other (livePlace ℓ j) (λ x. omega arith) (λ x. omega (arith, a .line))
 
     old-list : map (λ j. live l₃ ℓ j) (span 0 len) ≡ listOf l ℓ
     old-list = map-same (λ j. live l₃ ℓ j) (λ j. live l ℓ j) 0 len (λ j _ h. old-now j (omega arith)) ∙ ap (λ m. map (λ j. live l ℓ j) (span 0 m)) e
@@ -196,7 +195,7 @@ module _ {n ℓ k : ℕ} {ws l : List ℕ} (id : ℕ) (a : AddAsk n ℓ k ws l (
           supports = λ p v h i.
               let x : part k (getD ws id 0) p v ≡ part (blackAt ℓ) (wordOf n id) p v = ap₂ (λ b w. part b w p v) (a .black) word in
               omega (arith, r .supports p v h i, support-still p v h i);
-          rest = λ q h. r .rest q (h .supports) ∙ other q (λ x. h .list (omega arith) (omega (arith, room))) (h .count);
+          rest = λ q h. r .rest q (h .supports) ∙ other q (h .list len room) (h .count);
         }
 
 -- ---- what a scan lists, one after the other

@@ -17,6 +17,7 @@ use Rattle.rules.specs.Check.{maxTarget}
 use Rattle.words.specs.Word.{arrangementOf, wordOf, part}
 use Rattle.fresh.specs.Fresh.{Fresh}
 use Rattle.arcs.specs.Arc.{blackAt, LineOf, lives, live, support}
+use Rattle.slab.specs.Layout.{lengthsAt, lengthPlace, perLine, livePlace, supportPlace}
 use Rattle.listing.specs.Numbers.{sideOf, numbersFor}
 use Rattle.listing.proofs.NumberFacts.{target-most, numbers-few, numbers-are, numbers-known}
 use Rattle.listing.specs.Listing.{listOf, Elsewhere, Added, AddAsk, Unlisted, Lists, LinesAsk, LinesTo, targetAt, OpenAsk, LinesListed}
@@ -71,18 +72,18 @@ module _ {n ℓ : ℕ} {l l′ : List ℕ} (t : ℕ) (z : Size n) (h : t ≤ max
 
 -- ---- what is done elsewhere leaves it
 
-module _ (ℓ : ℕ) (l l′ : List ℕ) (h : ℓ < 18) (e : (q : ℕ) → 1585 ≤ q → ((m : ℕ) → m < 18 → (m ≡ ℓ → ⊥) → Elsewhere m q) → getD l′ q 0 ≡ getD l q 0) where
+module _ (ℓ : ℕ) (l l′ : List ℕ) (h : ℓ < 18) (e : (q : ℕ) → lengthsAt ≤ q → ((m : ℕ) → m < 18 → (m ≡ ℓ → ⊥) → Elsewhere m q) → getD l′ q 0 ≡ getD l q 0) where
   lives-kept : lives l′ ℓ ≡ lives l ℓ
-  lives-kept = e (1585 + ℓ) (omega arith) (λ m i d. record { count = λ x. d (omega arith); list = λ x y. omega arith; supports = λ x y. omega arith })
+  lives-kept = e (lengthPlace ℓ) (omega arith) (λ m i d. record { count = λ x. d (omega arith); list = λ j b x. omega arith; supports = λ p v b c x. omega arith })
 
-  live-kept : (j : ℕ) → j < 78 → live l′ ℓ j ≡ live l ℓ j
+  live-kept : (j : ℕ) → j < perLine → live l′ ℓ j ≡ live l ℓ j
   live-kept j k =
-      e (1603 + ℓ * 78 + j) (omega arith) (λ m i d. record { count = λ x. omega arith; list = λ x y. d (omega arith); supports = λ x y. omega arith })
+      e (livePlace ℓ j) (omega arith) (λ m i d. record { count = λ x. omega arith; list = λ o b x. d (omega arith); supports = λ p v b c x. omega arith })
 
   support-kept : (p v : ℕ) → p < 9 → v < 16 → support l′ (ℓ * 9 + p) v ≡ support l (ℓ * 9 + p) v
   support-kept p v i k =
-      e (3007 + (ℓ * 9 + p) * 16 + v) (omega arith)
-      (λ m c d. record { count = λ x. omega arith; list = λ x y. omega arith; supports = λ x y. d (omega arith) })
+      e (supportPlace (ℓ * 9 + p) v) (omega arith)
+      (λ m c d. record { count = λ x. omega arith; list = λ j b x. omega arith; supports = λ q w b f x. d (omega arith) })
 
   pub unlisted-kept : Unlisted ℓ l → Unlisted ℓ l′
   unlisted-kept u = record { none = lives-kept ∙ u .none; supports = λ p v i k. support-kept p v i k ∙ u .supports p v i k }
@@ -154,7 +155,7 @@ module _ {n from k : ℕ} {ws ts l l′ : List ℕ} (a : LinesAsk n from k ws ts
 -- ---- the rows, then the columns
 
 fresh-unlisted : (n ℓ : ℕ) (l : List ℕ) → Fresh n l → Unlisted ℓ l
-fresh-unlisted n ℓ l f = record { none = f .arcs (1585 + ℓ) (omega arith); supports = λ p v i k. f .arcs (3007 + (ℓ * 9 + p) * 16 + v) (omega arith) }
+fresh-unlisted n ℓ l f = record { none = f .arcs (lengthPlace ℓ) (omega arith); supports = λ p v i k. f .arcs (supportPlace (ℓ * 9 + p) v) (omega arith) }
 
 module _ {n : ℕ} {ws rows columns l : List ℕ} (a : OpenAsk n ws rows columns l) where
   pub rows-ask : LinesAsk n 0 8 ws rows l
@@ -197,8 +198,8 @@ module _ {n : ℕ} {ws rows columns l : List ℕ} (a : OpenAsk n ws rows columns
           size = s .size ∙ r .size;
           each = λ ℓ. ⊎-elim (λ h. row ℓ h) (λ h. column ℓ (h .0) (h .1));
           rest = λ q h.
-              s .rest q (λ i x. record { count = λ y. omega arith; list = λ y z. omega arith; supports = λ y z. omega arith })
-              ∙ r .rest q (λ i x. record { count = λ y. omega arith; list = λ y z. omega arith; supports = λ y z. omega arith });
+              s .rest q (λ i x. record { count = λ y. omega arith; list = λ j b y. omega arith; supports = λ p v b c y. omega arith })
+              ∙ r .rest q (λ i x. record { count = λ y. omega arith; list = λ j b y. omega arith; supports = λ p v b c y. omega arith });
         }
       where
         row : (ℓ : ℕ) → ℓ < n → Lists n ℓ (targetAt rows columns ℓ) l₂

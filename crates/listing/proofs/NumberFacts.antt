@@ -1,4 +1,4 @@
--- The numbers of a line's arrangements are those of the definition's list, and there are at most 78: computed at each size and target. Assumes nothing.
+-- The numbers of a line's arrangements are those of the definition's list, and there is room for them in its list: computed at each size and target. Assumes nothing.
 use Prim.Native.Nat.{ℕ, _+_, _-_, _/_, _%_, _^_, _≤_, _<_}
 use mathlib.Core.Path.{_≡_, refl, sym, ap, ap₂, _∙_}
 use mathlib.Core.Bool.{Bool, true, false, _&&_, true≢false}
@@ -17,6 +17,7 @@ use Rattle.bits.specs.Bit.{bit}
 use Rattle.rules.proofs.SizeLaws.{at-size}
 use Rattle.rules.specs.Size.{Size}
 use Rattle.words.specs.Word.{subsetTable, subset, sumTable, fromSum, maskIn, digitsOf, arrangementOf, Known}
+use Rattle.slab.specs.Layout.{perLine}
 use Rattle.listing.specs.Numbers.{scan, onSide, startsFrom, ofSize, sideFrom, sideOf, numbersFor}
 
 -- ---- equal arrangements, by a test
@@ -42,7 +43,7 @@ known-test n id = ltb id 1152 && (ltb (id % 9) n && ltb (maskIn (id / 9)) (2 ^ (
 
 list-test : ℕ → ℕ → Bool
 list-test n t =
-    leb (length (numbersFor n t)) 78 && (all (known-test n) (numbersFor n t) && sameAll (map (arrangementOf n) (numbersFor n t)) (arrangements n t))
+    leb (length (numbersFor n t)) perLine && (all (known-test n) (numbersFor n t) && sameAll (map (arrangementOf n) (numbersFor n t)) (arrangements n t))
 
 list-tests : all (λ n. all (list-test n) (span 0 (maxTarget n + 1))) (span 2 8) ≡ true
 unfolding
@@ -90,12 +91,12 @@ module _ (n t : ℕ) (z : Size n) (h : t ≤ maxTarget n) where
 
   others : (all (known-test n) (numbersFor n t) && sameAll (map (arrangementOf n) (numbersFor n t)) (arrangements n t)) ≡ true
   unfolding list-test
-  others = and-right (leb (length (numbersFor n t)) 78) _ tested
+  others = and-right (leb (length (numbersFor n t)) perLine) _ tested
 
-  -- a line has at most 78 arrangements
-  pub numbers-few : length (numbersFor n t) ≤ 78
+  -- a line has no more arrangements than its list has room for
+  pub numbers-few : length (numbersFor n t) ≤ perLine
   unfolding list-test
-  numbers-few = leb-true _ _ (and-left (leb (length (numbersFor n t)) 78) _ tested)
+  numbers-few = leb-true _ _ (and-left (leb (length (numbersFor n t)) perLine) _ tested)
 
   -- they are those of the definition, in its order
   pub numbers-are : map (arrangementOf n) (numbersFor n t) ≡ arrangements n t

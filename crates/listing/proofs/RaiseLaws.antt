@@ -17,6 +17,7 @@ use Rattle.bits.proofs.SumLaws.{same-yes, same-no}
 use Rattle.words.specs.Word.{setOf, innerOf, firstOf, secondOf, part}
 use Rattle.words.proofs.PatternLaws.{part-digit, part-first, part-second, part-other, first-in, second-in}
 use Rattle.arcs.specs.Arc.{support}
+use Rattle.slab.specs.Layout.{supportPlace}
 use Rattle.listing.specs.Listing.{Raised, oneAt, digitsAt, innerTo, RaiseAsk, WordAsk}
 
 same-lt : (a b : ℕ) → same a b < 2
@@ -45,23 +46,23 @@ raised-both d r s e =
     }
 
 -- one support, as the code raises it
-pub raise-done : (l : List ℕ) (ℓ p v : ℕ) → RaiseAsk ℓ p v l → Raised ℓ l (set l (3007 + (ℓ * 9 + p) * 16 + v) (support l (ℓ * 9 + p) v + 1)) (oneAt p v)
+pub raise-done : (l : List ℕ) (ℓ p v : ℕ) → RaiseAsk ℓ p v l → Raised ℓ l (set l (supportPlace (ℓ * 9 + p) v) (support l (ℓ * 9 + p) v + 1)) (oneAt p v)
 unfolding oneAt
 raise-done l ℓ p v a =
     record {
       size = length-set l _ _;
       supports = λ q w h k. at q w h k (ℕ-discrete (q * 16 + w) (p * 16 + v));
-      rest = λ q h. getD-set-other l _ q _ 0 (λ e. h (omega (arith, a .place, a .value)) (omega (arith, a .place, a .value)));
+      rest = λ q h. getD-set-other l _ q _ 0 (h p v (a .place) (a .value));
     }
   where
     at : (q w : ℕ) → q < 9 → w < 16 → Dec (q * 16 + w ≡ p * 16 + v) →
-        support (set l (3007 + (ℓ * 9 + p) * 16 + v) (support l (ℓ * 9 + p) v + 1)) (ℓ * 9 + q) w ≡ support l (ℓ * 9 + q) w + same (q * 16 + w) (p * 16 + v)
+        support (set l (supportPlace (ℓ * 9 + p) v) (support l (ℓ * 9 + p) v + 1)) (ℓ * 9 + q) w ≡ support l (ℓ * 9 + q) w + same (q * 16 + w) (p * 16 + v)
     at q w h k (yes e) =
         let eq : q ≡ p = omega (arith, a .value) in
         let ew : w ≡ v = omega (arith, a .value) in
         rw (eq, ew) (getD-set-same l _ _ 0 (omega (arith, a .long, a .line, a .place, a .value)) ∙ omega (arith, same-yes (p * 16 + v) (p * 16 + v) refl))
     at q w h k (no e) =
-        getD-set-other l _ (3007 + (ℓ * 9 + q) * 16 + w) _ 0 (λ d. e (omega arith)) ∙ omega (arith, same-no (q * 16 + w) (p * 16 + v) e)
+        getD-set-other l _ (supportPlace (ℓ * 9 + q) w) _ 0 (λ d. e (omega arith)) ∙ omega (arith, same-no (q * 16 + w) (p * 16 + v) e)
 
 -- ---- the digits of a set at one place
 

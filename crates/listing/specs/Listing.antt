@@ -15,6 +15,7 @@ use Rattle.table.specs.Closed.{arrangements}
 use Rattle.words.specs.Word.{Known, arrangementOf, wordOf, maskIn, setOf, innerOf, part, Shaped, Words}
 use Rattle.arcs.specs.Arc.{blackAt, LineOf, lives, live, support}
 use Rattle.fresh.specs.Fresh.{Fresh}
+use Rattle.slab.specs.Layout.{lengthsAt, lengthPlace, perLine, livePlace, supportPlace, slabSize}
 
 -- The numbers of the arrangements that line ℓ lists.
 abbrev pub listOf : List ℕ → ℕ → List ℕ
@@ -22,9 +23,9 @@ listOf l ℓ = map (λ j. live l ℓ j) (span 0 (lives l ℓ))
 
 -- Place q of the state is not one of line ℓ: not how many arrangements it lists, not in its list, not among its supports.
 pub record Elsewhere (ℓ q : ℕ) : Type 0 where
-  pub count : q ≡ 1585 + ℓ → ⊥
-  pub list : 1603 + ℓ * 78 ≤ q → q < 1681 + ℓ * 78 → ⊥
-  pub supports : 3007 + ℓ * 144 ≤ q → q < 3151 + ℓ * 144 → ⊥
+  pub count : q ≡ lengthPlace ℓ → ⊥
+  pub list : (j : ℕ) → j < perLine → (q ≡ livePlace ℓ j → ⊥)
+  pub supports : (p v : ℕ) → p < 9 → v < 16 → (q ≡ supportPlace (ℓ * 9 + p) v → ⊥)
 
 -- ---- supports
 
@@ -32,7 +33,7 @@ pub record Elsewhere (ℓ q : ℕ) : Type 0 where
 pub record Raised (ℓ : ℕ) (l l′ : List ℕ) (f : ℕ → ℕ → ℕ) : Type 0 where
   pub size : length l′ ≡ length l
   pub supports : (p v : ℕ) → p < 9 → v < 16 → support l′ (ℓ * 9 + p) v ≡ support l (ℓ * 9 + p) v + f p v
-  pub rest : (q : ℕ) → (3007 + ℓ * 144 ≤ q → q < 3151 + ℓ * 144 → ⊥) → getD l′ q 0 ≡ getD l q 0
+  pub rest : (q : ℕ) → ((p v : ℕ) → p < 9 → v < 16 → (q ≡ supportPlace (ℓ * 9 + p) v → ⊥)) → getD l′ q 0 ≡ getD l q 0
 
 -- By one at one place and value; by the digits of a set at one place; by the digits of a word at its inner places below m.
 unfoldable pub oneAt : ℕ → ℕ → ℕ → ℕ → ℕ
@@ -46,7 +47,7 @@ innerTo m w q v = cond (ltb q m) (min (bit v (setOf w)) (bit q (innerOf w))) 0
 
 -- The support of the value v at place p of line ℓ can rise.
 pub record RaiseAsk (ℓ p v : ℕ) (l : List ℕ) : Type 0 where
-  pub long : length l ≡ 5599
+  pub long : length l ≡ slabSize
   pub line : ℓ < 18
   pub place : p < 9
   pub value : v < 16
@@ -59,8 +60,8 @@ pub record WordAsk (n ℓ k w : ℕ) (l : List ℕ) : Type 0 where
   pub line : ℓ < 18
   pub first : 8 ≤ k
   pub second : k < 15
-  pub long : length l ≡ 5599
-  pub low : (p v : ℕ) → p < 9 → v < 16 → support l (ℓ * 9 + p) v ≤ 78
+  pub long : length l ≡ slabSize
+  pub low : (p v : ℕ) → p < 9 → v < 16 → support l (ℓ * 9 + p) v ≤ perLine
 
 -- ---- arrangements
 
@@ -78,8 +79,8 @@ pub record AddAsk (n ℓ k : ℕ) (ws l ids : List ℕ) : Type 0 where
   pub words : Words n ws
   pub line : ℓ < 18
   pub black : k ≡ blackAt ℓ
-  pub long : length l ≡ 5599
-  pub room : lives l ℓ + length ids ≤ 78
+  pub long : length l ≡ slabSize
+  pub room : lives l ℓ + length ids ≤ perLine
   pub low : (p v : ℕ) → p < 9 → v < 16 → support l (ℓ * 9 + p) v ≤ lives l ℓ
 
 -- Those of one line, one after the other: what is added so far and the rest are the whole.
@@ -104,7 +105,7 @@ pub record Unlisted (ℓ : ℕ) (l : List ℕ) : Type 0 where
 
 -- Line ℓ lists the arrangements of its target t, in the order of the definition, and its supports are their tally.
 pub record Lists (n ℓ t : ℕ) (l : List ℕ) : Type 0 where
-  pub room : lives l ℓ ≤ 78
+  pub room : lives l ℓ ≤ perLine
   pub is : map (arrangementOf n) (listOf l ℓ) ≡ arrangements n t
   pub known : (j : ℕ) → j < lives l ℓ → Known n (live l ℓ j)
   pub supports : (p v : ℕ) → p < 9 → v < 16 → support l (ℓ * 9 + p) v ≡ sumOver 0 (lives l ℓ) (λ (j : ℕ). part (blackAt ℓ) (wordOf n (live l ℓ j)) p v)
@@ -115,7 +116,7 @@ pub record LinesAsk (n from k : ℕ) (ws ts l : List ℕ) : Type 0 where
   pub words : Words n ws
   pub lines : from + n ≤ 18
   pub black : (i : ℕ) → i < n → k ≡ blackAt (from + i)
-  pub long : length l ≡ 5599
+  pub long : length l ≡ slabSize
   pub targets : length ts ≡ n
   pub within : (i : ℕ) → i < n → getD ts i 0 ≤ maxTarget n
   pub unlisted : (i : ℕ) → i < n → Unlisted (from + i) l
@@ -146,4 +147,4 @@ pub record OpenAsk (n : ℕ) (ws rows columns l : List ℕ) : Type 0 where
 pub record LinesListed (n : ℕ) (rows columns l l′ : List ℕ) : Type 0 where
   pub size : length l′ ≡ length l
   pub each : (ℓ : ℕ) → LineOf n ℓ → Lists n ℓ (targetAt rows columns ℓ) l′
-  pub rest : (q : ℕ) → q < 1585 → getD l′ q 0 ≡ getD l q 0
+  pub rest : (q : ℕ) → q < lengthsAt → getD l′ q 0 ≡ getD l q 0

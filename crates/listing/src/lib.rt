@@ -71,7 +71,7 @@ fn add_arrangement(st: &mut [u16], words: &[u32], n: usize, line: usize, first: 
     ensures { λ _. ⌜ Added n line (now (st .entry)) (now (st .exit)) (id ∷ []) ⌝ }
 {
     let k = wide(st[Slab::LENGTHS + line]);
-    st[Slab::LIVE + line * 78 + k] = id as u16;
+    st[Slab::LIVE + line * Slab::PER_LINE + k] = id as u16;
     st[Slab::LENGTHS + line] = (k + 1) as u16;
     add_support(st, n, line, first, words[id]);
 }

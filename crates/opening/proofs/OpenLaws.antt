@@ -13,6 +13,7 @@ use Rattle.bits.proofs.BitLaws.{bit-lt, bit-le, bit-zero}
 use Rattle.bits.specs.Sum.{same}
 use Rattle.bits.proofs.SumLaws.{sum-same}
 use Rattle.rules.specs.Size.{Size}
+use Rattle.slab.specs.Layout.{entryPlace, tailAt, countersAt, lengthsAt, supportPlace, slabSize}
 use Rattle.slab.specs.Slab.{cand, tail, entry, waits, lag, candidatesLeft, Sized, Grown, Struck}
 use Rattle.slab.proofs.SlabLaws.{cand-same}
 use Rattle.slab.proofs.StruckLaws.{grown-sized, grown-trans}
@@ -31,12 +32,12 @@ use Rattle.opening.specs.Opening.{Bare, in-row, in-column, BareTo, Opene
 
 -- ---- where only counters moved
 
-module _ (l l′ : List ℕ) (s : Sized l) (long : length l′ ≡ length l) (e : (q : ℕ) → q < 973 → getD l′ q 0 ≡ getD l q 0) where
+module _ (l l′ : List ℕ) (s : Sized l) (long : length l′ ≡ length l) (e : (q : ℕ) → q < countersAt → getD l′ q 0 ≡ getD l q 0) where
   tail-kept : tail l′ ≡ tail l
-  tail-kept = e 972 (omega arith)
+  tail-kept = e tailAt (omega arith)
 
   entry-kept : (i : ℕ) → i < tail l → entry l′ i ≡ entry l i
-  entry-kept i h = e (81 + i) (omega (arith, s .room))
+  entry-kept i h = e (entryPlace i) (omega (arith, s .room))
 
   cand-kept : (x v : ℕ) → cand l′ x v ≡ cand l x v
   cand-kept x v = cand-same l l′ (λ q h. e q (omega arith)) x v
@@ -136,12 +137,12 @@ module _ {n : ℕ} {ws rows columns l l₁ : List ℕ} (a : OpenAsk n ws rows co
     backed ℓ (inl h) p v i k f e =
         let c = row-cell n ℓ p (a .size) i h in
         let g : HalfOf 8 v = rw (lt-ltb ℓ 9 (omega (arith, a .size .high))) at f in
-        let u : support l₁ (ℓ * 9 + p) v ≡ 0 = sym (s .rest (3007 + (ℓ * 9 + p) * 16 + v) (omega arith)) ∙ e in
+        let u : support l₁ (ℓ * 9 + p) v ≡ 0 = sym (s .rest (supportPlace (ℓ * 9 + p) v) (omega arith)) ∙ e in
         s .gone (cellAt ℓ p) v k (omega (arith, c .0), omega (arith, c .1), in-row g (rw (c .0, c .1) u))
     backed ℓ (inr h) p v i k f e =
         let c = column-cell n ℓ p (a .size) i (h .0) (h .1) in
         let g : HalfOf 10 v = rw (le-ltb ℓ 9 (h .0)) at f in
-        let u : support l₁ (ℓ * 9 + p) v ≡ 0 = sym (s .rest (3007 + (ℓ * 9 + p) * 16 + v) (omega arith)) ∙ e in
+        let u : support l₁ (ℓ * 9 + p) v ≡ 0 = sym (s .rest (supportPlace (ℓ * 9 + p) v) (omega arith)) ∙ e in
         s .gone (cellAt ℓ p) v k (omega (arith, c .0), omega (arith, c .1, h .1), in-column g (rw (c .0, c .1) u))
 
     tallied : (ℓ : ℕ) → LineOf n ℓ → Tallied n ℓ (lives l₂ ℓ) l₂
@@ -178,7 +179,7 @@ module _ {n : ℕ} {ws rows columns l l₁ : List ℕ} (a : OpenAsk n ws rows co
               within = b .1;
               there = rw t (omega arith);
               half = rw t i;
-              none = s .rest (3007 + (x / 9 * 9 + x % 9) * 16 + v) (omega arith) ∙ e;
+              none = s .rest (supportPlace (x / 9 * 9 + x % 9) v) (omega arith) ∙ e;
             }
         go (in-column i e) =
             let t = le-ltb (9 + x % 9) 9 (omega arith) in
@@ -189,10 +190,10 @@ module _ {n : ℕ} {ws rows columns l l₁ : List ℕ} (a : OpenAsk n ws rows co
               within = b .0;
               there = rw t (omega arith);
               half = rw t i;
-              none = s .rest (3007 + ((9 + x % 9) * 9 + x / 9) * 16 + v) (omega arith) ∙ e;
+              none = s .rest (supportPlace ((9 + x % 9) * 9 + x / 9) v) (omega arith) ∙ e;
             }
 
-    kept : (p : ℕ) → 973 ≤ p → (p < 1585) ⊎ (5599 ≤ p) → getD l₂ p 0 ≡ getD l p 0
+    kept : (p : ℕ) → countersAt ≤ p → (p < lengthsAt) ⊎ (slabSize ≤ p) → getD l₂ p 0 ≡ getD l p 0
     kept p h (inl i) = s .rest p h ∙ d .rest p i
     kept p h (inr i) =
         List·getD-eq-default l₂ 0 (omega (arith, s .grown .size, d .size, a .fresh .size)) ∙ sym (List·getD-eq-default l 0 (omega (arith, a .fresh .size)))

@@ -15,6 +15,7 @@ use Rattle.tally.proofs.TallyLaws.{span-mem, and-left, and-right}
 use Rattle.tally.proofs.WayLaws.{all-each}
 use Rattle.bits.specs.Bit.{bit}
 use Rattle.bits.proofs.BitLaws.{bit-lt, bit-and, bit-or, bit-none, bit-pow-same, bit-pow-other, shl-one}
+use Rattle.slab.specs.Layout.{countersAt, supportPlace}
 use Rattle.slab.specs.Slab.{Struck, Masked}
 use Rattle.slab.proofs.StruckLaws.{struck-none, struck-both, struck-as}
 use Rattle.arcs.specs.Arc.{HalfOf, support}
@@ -160,11 +161,11 @@ module _ (l : List ℕ) (r c a b : ℕ) (la : Lacks l (r * 9 + c) 12 a) (lb : La
 -- ---- cell by cell, and row by row
 
 -- the supports are where strikes leave them
-bare-same : {l l′ : List ℕ} → ((p : ℕ) → 973 ≤ p → getD l′ p 0 ≡ getD l p 0) → (x v : ℕ) → Bare l′ x v → Bare l x v
-bare-same e x v (in-row i f) = in-row i (sym (e (3007 + (x / 9 * 9 + x % 9) * 16 + v) (omega arith)) ∙ f)
-bare-same e x v (in-column i f) = in-column i (sym (e (3007 + ((9 + x % 9) * 9 + x / 9) * 16 + v) (omega arith)) ∙ f)
+bare-same : {l l′ : List ℕ} → ((p : ℕ) → countersAt ≤ p → getD l′ p 0 ≡ getD l p 0) → (x v : ℕ) → Bare l′ x v → Bare l x v
+bare-same e x v (in-row i f) = in-row i (sym (e (supportPlace (x / 9 * 9 + x % 9) v) (omega arith)) ∙ f)
+bare-same e x v (in-column i f) = in-column i (sym (e (supportPlace ((9 + x % 9) * 9 + x / 9) v) (omega arith)) ∙ f)
 
-bare-back : {l l′ : List ℕ} → ((p : ℕ) → 973 ≤ p → getD l′ p 0 ≡ getD l p 0) → (x v : ℕ) → Bare l x v → Bare l′ x v
+bare-back : {l l′ : List ℕ} → ((p : ℕ) → countersAt ≤ p → getD l′ p 0 ≡ getD l p 0) → (x v : ℕ) → Bare l x v → Bare l′ x v
 bare-back e x v b = bare-same (λ p h. sym (e p h)) x v b
 
 pub row-start : (l : List ℕ) (r : ℕ) → Struck l l (BareIn l r 0)

@@ -5,6 +5,7 @@ use mathlib.Core.List.{List, map}
 use Rattle.tally.specs.Tally.{span}
 use Rattle.table.specs.Closed.{arrangements}
 use Rattle.bits.specs.Bit.{bit}
+use Rattle.slab.specs.Layout.{lengthsAt, slabSize}
 use Rattle.slab.specs.Slab.{cand}
 use Rattle.slab.specs.Ready.{Moved}
 use Rattle.words.specs.Word.{arrangementOf}
@@ -34,7 +35,7 @@ BareTo l n r x v = (x / 9 < r) × (x % 9 < n) × Bare l x v
 -- The opened state: besides strikes only lists and supports moved; each line is an arc with nothing handled yet, it lists the arrangements of its target,
 -- in the order of the definition; and what was struck has no support.
 pub record Opened (n : ℕ) (rows columns l l′ : List ℕ) : Type 0 where
-  pub moved : Moved l l′ 1585 5599
+  pub moved : Moved l l′ lengthsAt slabSize
   pub arcs : (ℓ : ℕ) → LineOf n ℓ → Arc n ℓ l′ 0
   pub listed : (ℓ : ℕ) → LineOf n ℓ → map (arrangementOf n) (map (λ j. live l′ ℓ j) (span 0 (lives l′ ℓ))) ≡ arrangements n (targetAt rows columns ℓ)
   pub struck : (x v : ℕ) → v < 16 → cand l x v ≡ 1 → cand l′ x v ≡ 0 → Unsupported n l′ x v

@@ -6,13 +6,14 @@ use value::Value;
 ghost use mathlib.Core.Path.{_≡_};
 ghost use Prim.Native.Nat.{_+_, _*_, _≤_, _<_};
 ghost use lib.ListN.{length};
+ghost use Rattle.slab.specs.Layout.{slabSize};
 ghost use Rattle.slab.specs.Slab.{Sized, Struck};
 ghost use Rattle.listing.specs.Listing.{OpenAsk};
 ghost use Rattle.opening.specs.Opening.{Lacks, BareCell, BareIn, BareTo, Opened};
 
 // The values that no live arrangement of a line has at place p, as a mask.
 fn unsupported(st: &[u16], line: usize, p: usize) -> u16
-    requires { ⌜ (length (now st) ≡ 5599) × (line < 18) × (p < 9) ⌝ }
+    requires { ⌜ (length (now st) ≡ slabSize) × (line < 18) × (p < 9) ⌝ }
     ensures { λ r. ⌜ Lacks (now (st .entry)) (line * 9 + p) 12 r ⌝ }
 {
     let mut m = 0u16;

@@ -3,13 +3,14 @@ use Prim.Native.Nat.{ℕ, _*_, _%_, _≤_, _<_}
 use mathlib.Core.Path.{_≡_}
 use mathlib.Core.List.{List}
 use lib.ListN.{length}
+use Rattle.slab.specs.Layout.{slabSize}
 use Rattle.slab.specs.Ready.{Ready}
 use Rattle.pick.specs.Choice.{rowChoices, Open}
 use Rattle.pick.specs.declared.Best.{Best}
 
 -- A cell's place in a state.
 pub record PlaceAsk (l : List ℕ) (cell : ℕ) : Type 0 where
-  pub size : length l ≡ 5599
+  pub size : length l ≡ slabSize
   pub place : cell < 81
 
 -- The best cell after one more: the old one, or one with a choice.

@@ -15,6 +15,7 @@ use Rattle.rules.proofs.SizeLaws.{at-size}
 use Rattle.rules.specs.Size.{Size}
 use Rattle.bits.specs.Sum.{sumOver}
 use Rattle.bits.proofs.SumLaws.{sum-same}
+use Rattle.slab.specs.Layout.{rowHalfAt, rowBlacksAt, lengthsAt}
 use Rattle.slab.specs.Slab.{cand, lag}
 use Rattle.slab.proofs.SlabLaws.{cand-lt}
 use Rattle.slab.proofs.ReadyLaws.{ready-valid}
@@ -43,15 +44,15 @@ place-right = refl
 
 -- ---- places of the counters, and of the cells of a line
 
-halves-place : (ℓ : Line) → (973 ≤ halvesBase ℓ) × (halvesBase ℓ + 81 ≤ 1423)
+halves-place : (ℓ : Line) → (rowHalfAt ≤ halvesBase ℓ) × (halvesBase ℓ + 81 ≤ rowBlacksAt)
 halves-place (across r) = (omega arith, omega arith)
 halves-place (down c) = (omega arith, omega arith)
 
-places-place : (ℓ : Line) → (973 ≤ placesBase ℓ) × (placesBase ℓ + 144 ≤ 1423)
+places-place : (ℓ : Line) → (rowHalfAt ≤ placesBase ℓ) × (placesBase ℓ + 144 ≤ rowBlacksAt)
 places-place (across r) = (omega arith, omega arith)
 places-place (down c) = (omega arith, omega arith)
 
-blacks-place : (ℓ : Line) → (1423 ≤ blacksBase ℓ) × (blacksBase ℓ + 81 ≤ 1585)
+blacks-place : (ℓ : Line) → (rowBlacksAt ≤ blacksBase ℓ) × (blacksBase ℓ + 81 ≤ lengthsAt)
 blacks-place (across r) = (omega arith, omega arith)
 blacks-place (down c) = (omega arith, omega arith)
 

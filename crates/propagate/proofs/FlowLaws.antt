@@ -22,6 +22,7 @@ use Rattle.soundness.specs.SameGrids.{SameGrids, Forced}
 use Rattle.soundness.proofs.Deductions.{naked-forced, hidden-forced}
 use Rattle.soundness.proofs.Deductions as deductions
 use Rattle.soundness.proofs.Taken.{taken-same}
+use Rattle.slab.specs.Layout.{lengthsAt}
 use Rattle.slab.specs.Slab.{cand, tableIn}
 use Rattle.slab.specs.Ready.{Moved}
 use Rattle.words.specs.Word.{arrangementOf}
@@ -62,7 +63,7 @@ module _ (p : Puzzle) (z : p .size ≤ 9) where
   steps-same {l} done = same-refl p (tableIn l)
   steps-same (step r s) = same-trans (reason-same r) (steps-same s)
 
-pub steps-flow : {n a b : ℕ} {l l′ : List ℕ} → n ≤ 9 → b ≤ 1585 → Moved l l′ a b → Steps n l l′ → Flows n l l′
+pub steps-flow : {n a b : ℕ} {l l′ : List ℕ} → n ≤ 9 → b ≤ lengthsAt → Moved l l′ a b → Steps n l l′ → Flows n l l′
 steps-flow {n} {l = l} {l′ = l′} z low m s =
     record {
       flow = λ p q k. let y : p .size ≤ 9 = subst (λ x. x ≤ 9) (sym q) z in

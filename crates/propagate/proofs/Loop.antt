@@ -12,6 +12,7 @@ use borrow.Author.Tests.{ne-eqb}
 use Rattle.bits.specs.Bit.{bit}
 use Rattle.bits.proofs.BitLaws.{bit-zero, bit-suc, bit-none}
 use Rattle.bits.proofs.SumLaws.{same-no}
+use Rattle.slab.specs.Layout.{queueRoom, slabSize}
 use Rattle.slab.specs.Slab.{cand, tableIn, tail, entry, lag}
 use Rattle.slab.proofs.SlabLaws.{cand-in}
 use Rattle.slab.proofs.ReadyLaws.{ready-grown, lag-pop}
@@ -45,10 +46,10 @@ pub loop-start : {n : ℕ} {ws l : List ℕ} → PropagateAsk n ws l → Propaga
 loop-start {n} {ws} {l} a = record { words = a .words; lagging = a .lagging; size = refl; sub = λ x v h. omega arith; flows = flows-refl n l }
 
 module _ {n : ℕ} {ws l₀ l : List ℕ} {head : ℕ} (g : Propagating n ws l₀ l head) where
-  pub loop-size : length l ≡ 5599
+  pub loop-size : length l ≡ slabSize
   loop-size = g .lagging .ready .sized .size
 
-  pub loop-tail : tail l ≤ 891
+  pub loop-tail : tail l ≤ queueRoom
   loop-tail = omega (arith, g .lagging .ready .sized .room)
 
   module _ (under : head < tail l) (e : ℕ) (is : e ≡ entry l head) where

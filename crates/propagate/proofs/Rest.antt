@@ -15,6 +15,7 @@ use Rattle.table.specs.Closed.{arrangements, Supported, Closed}
 use Rattle.table.specs.Table.{places, firstBlack, half}
 use Rattle.settled.specs.EmptyCell.{Empty}
 use Rattle.soundness.proofs.SameLaws.{same-trans, same-ext}
+use Rattle.slab.specs.Layout.{tailAt, countersAt, slabSize}
 use Rattle.slab.specs.Slab.{cand, tableIn, tail, waits, lag, candidatesLeft}
 use Rattle.slab.proofs.SlabLaws.{cand-lt, cand-same}
 use Rattle.slab.proofs.ReadyLaws.{lag-rest}
@@ -29,15 +30,15 @@ use Rattle.propagate.proofs.FlowLaws.{number-of}
 use Rattle.propagate.proofs.Loop.{Propagating}
 
 -- the queue reset, as the code does it
-module _ (l l′ : List ℕ) (size : length l ≡ 5599) (is : l′ ≡ set l 972 0) where
+module _ (l l′ : List ℕ) (size : length l ≡ slabSize) (is : l′ ≡ set l tailAt 0) where
   reset-size : length l′ ≡ length l
-  reset-size = ap length is ∙ length-set l 972 0
+  reset-size = ap length is ∙ length-set l tailAt 0
 
   reset-tail : tail l′ ≡ 0
-  reset-tail = ap (λ y. getD y 972 0) is ∙ getD-set-same l 972 0 0 (omega arith)
+  reset-tail = ap (λ y. getD y tailAt 0) is ∙ getD-set-same l tailAt 0 0 (omega arith)
 
-  reset-rest : (q : ℕ) → q ≢ 972 → getD l′ q 0 ≡ getD l q 0
-  reset-rest q d = ap (λ y. getD y q 0) is ∙ getD-set-other l 972 q 0 0 d
+  reset-rest : (q : ℕ) → q ≢ tailAt → getD l′ q 0 ≡ getD l q 0
+  reset-rest q d = ap (λ y. getD y q 0) is ∙ getD-set-other l tailAt q 0 0 d
 
   reset-cand : (x v : ℕ) → cand l′ x v ≡ cand l x v
   reset-cand x v = cand-same l l′ (λ q h. reset-rest q (λ e. omega arith)) x v
@@ -50,7 +51,7 @@ module _ (l l′ : List ℕ) (size : length l ≡ 5599) (is : l′ ≡ set l 972
   same-table i j v = ap (λ (y : ℕ). eqb y 1) (sym (reset-cand (i * 9 + j) v))
 
   -- a family of counters, whose rule speaks of candidates alone
-  reset-ruled : (F : Fam) (low : ℕ) (Rule : List ℕ → ℕ → Type 0) → 973 ≤ F .base → ((i : ℕ) → Rule l i → Rule l′ i) → {n : ℕ} →
+  reset-ruled : (F : Fam) (low : ℕ) (Rule : List ℕ → ℕ → Type 0) → countersAt ≤ F .base → ((i : ℕ) → Rule l i → Rule l′ i) → {n : ℕ} →
       Ruled F low Rule n l (tail l) → Ruled F low Rule n l′ 0
   reset-ruled F low Rule from same w =
       let there : (i : ℕ) → getD l′ (F .base + i) 0 ≡ getD l (F .base + i) 0 = λ i. reset-rest (F .base + i) (λ e. omega arith) in
@@ -161,7 +162,7 @@ module _ {n : ℕ} {l : List ℕ} (empty : tail l ≡ 0) (g : Lagging n l 0) whe
 
 -- ---- the end of the loop
 
-pub loop-end : {n : ℕ} {ws l₀ l l′ : List ℕ} {head : ℕ} → Propagating n ws l₀ l head → tail l ≤ head → l′ ≡ set l 972 0 → Propagated n l₀ l′ true
+pub loop-end : {n : ℕ} {ws l₀ l l′ : List ℕ} {head : ℕ} → Propagating n ws l₀ l head → tail l ≤ head → l′ ≡ set l tailAt 0 → Propagated n l₀ l′ true
 loop-end {n} {ws} {l₀} {l} {l′} {head} g stop is =
     let z = g .lagging .ready .sized .size in
     let at : head ≡ tail l = omega (arith, g .lagging .upto) in

@@ -6,6 +6,7 @@ use mathlib.Core.List.{List}
 use native.Mathlib.Omega.{arith}
 use Rattle.bits.specs.Sum.{same}
 use Rattle.bits.proofs.SumLaws.{same-yes, sum-has}
+use Rattle.slab.specs.Layout.{lengthsAt, slabSize}
 use Rattle.slab.specs.Slab.{cand, tail, entry, waits, lag, Grown}
 use Rattle.slab.proofs.StruckLaws.{grown-trans}
 use Rattle.slab.proofs.ReadyLaws.{ready-grown, next-grown}
@@ -89,7 +90,7 @@ module _ {n : ℕ} {ws l : List ℕ} {r c v : ℕ} (a : UpdateAsk n ws l r c v) 
             }
 
         module _ {l₄ : List ℕ} (d₄ : ArcDone n l₃ l₄ r c v) where
-          m₄ : Moved l₃ l₄ 1585 5599
+          m₄ : Moved l₃ l₄ lengthsAt slabSize
           m₄ = d₄ .pruned .moved
 
           counted₄ : (h : ℕ) → Next l h (r * 9 + c) v → Counted n l h → Counted n l₄ (h + 1)

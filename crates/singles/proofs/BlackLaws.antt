@@ -16,6 +16,7 @@ use Rattle.table.specs.Lines.{rowOf, columnOf, cellOf}
 use Rattle.bits.specs.Bit.{bit}
 use Rattle.bits.specs.Sum.{sumOver}
 use Rattle.bits.proofs.SumLaws.{sum-has}
+use Rattle.slab.specs.Layout.{countersAt}
 use Rattle.slab.specs.Slab.{cand, tableIn, Sized, Struck, Masked, CounterAsk}
 use Rattle.slab.proofs.SlabLaws.{cand-lt}
 use Rattle.slab.proofs.StruckLaws.{grown-sized, grown-gone}
@@ -69,7 +70,7 @@ module _ {n counter x mask : ℕ} {own : Bool} {l : List ℕ} {ℓ : Line} {i h 
   grid : (x / 9 < n) × (x % 9 < n)
   grid = rw (a .there) (in-grid n ℓ i high (a .line) (a .place))
 
-  from : 973 ≤ counter
+  from : countersAt ≤ counter
   from = omega (arith, a .at-counter, black-range ℓ)
 
   -- the strike is of no black of the line

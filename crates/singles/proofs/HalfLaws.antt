@@ -16,6 +16,7 @@ use Rattle.rules.specs.Grid.{Line, across, down}
 use Rattle.bits.specs.Bit.{bit}
 use Rattle.bits.specs.Sum.{sumOver}
 use Rattle.bits.proofs.SumLaws.{sum-has, sum-lone}
+use Rattle.slab.specs.Layout.{countersAt, rowHalfAt, colHalfAt}
 use Rattle.slab.specs.Slab.{cand, Struck, CounterAsk}
 use Rattle.slab.proofs.SlabLaws.{cand-in, cand-lt}
 use Rattle.slab.proofs.StruckLaws.{grown-gone}
@@ -61,7 +62,7 @@ mask-narrow : (ℓ : Line) → halfMask ℓ < 2 ^ 16
 mask-narrow (across r) = omega arith
 mask-narrow (down c) = omega arith
 
-base-range : (ℓ : Line) → (973 ≤ halvesBase ℓ) × (halvesBase ℓ ≤ 1054)
+base-range : (ℓ : Line) → (rowHalfAt ≤ halvesBase ℓ) × (halvesBase ℓ ≤ colHalfAt)
 base-range (across r) = omega arith
 base-range (down c) = omega arith
 
@@ -83,7 +84,7 @@ module _ {n counter x mask : ℕ} {own : Bool} {l : List ℕ} {ℓ : Line} {i h 
   grid : (x / 9 < n) × (x % 9 < n)
   grid = rw (a .there) (in-grid n ℓ i high (a .line) (a .place))
 
-  from : 973 ≤ counter
+  from : countersAt ≤ counter
   from = omega (arith, a .at-counter, base-range ℓ)
 
   -- the strike is of another half

@@ -10,6 +10,7 @@ use Rattle.rules.specs.Grid.{Line, across, down, index}
 use Rattle.bits.specs.Sum.{sumOver}
 use Rattle.bits.proofs.SumLaws.{sum-same, sum-has, sum-lone}
 use Rattle.table.specs.Table.{places}
+use Rattle.slab.specs.Layout.{countersAt, placesAt}
 use Rattle.slab.specs.Slab.{cand, tableIn, Struck, CounterAsk}
 use Rattle.slab.proofs.SlabLaws.{cand-lt}
 use Rattle.slab.proofs.StruckLaws.{grown-gone}
@@ -28,7 +29,7 @@ use Rattle.singles.specs.Reasons.{Reason, hidden, done, step}
 use Rattle.singles.specs.Handling.{FindAsk, PlaceFound, PlacesAt, PlacesAsk, PlacesDone}
 use Rattle.singles.proofs.HalfLaws.{set-now, set-never}
 
-base-range : (ℓ : Line) → (1135 ≤ placesBase ℓ) × (placesBase ℓ ≤ 1279)
+base-range : (ℓ : Line) → (placesAt ≤ placesBase ℓ) × (placesBase ℓ ≤ placesAt + 9 * 16)
 base-range (across r) = omega arith
 base-range (down c) = omega arith
 
@@ -43,7 +44,7 @@ module _ {n counter start stride v : ℕ} {own : Bool} {l : List ℕ} {ℓ : Lin
   line-small : index ℓ < 9
   line-small = omega (arith, a .line, high)
 
-  from : 973 ≤ counter
+  from : countersAt ≤ counter
   from = omega (arith, a .at-counter, base-range ℓ)
 
   -- the strike is of a value that the line has not

@@ -7,6 +7,7 @@ use lib.ListN.{getD, set}
 use Rattle.rules.specs.Grid.{Line, index}
 use Rattle.table.specs.Steps.{taken}
 use Rattle.table.specs.Lines.{rowOf, columnOf, cellOf}
+use Rattle.slab.specs.Layout.{countersAt}
 use Rattle.slab.specs.Slab.{tableIn, Sized, Struck}
 use Rattle.slab.proofs.StruckLaws.{set-cand}
 use Rattle.set_cell.specs.Setting.{SetHit}
@@ -19,7 +20,7 @@ steps-both done b = b
 steps-both (step r a) b = step r (steps-both a b)
 
 -- a counter that falls changes no candidate
-pub still-lower : {n p : ℕ} {l l′ : List ℕ} → Sized l → 973 ≤ p → l′ ≡ set l p (getD l p 0 - 1) → Reason n l l′
+pub still-lower : {n p : ℕ} {l l′ : List ℕ} → Sized l → countersAt ≤ p → l′ ≡ set l p (getD l p 0 - 1) → Reason n l l′
 unfolding tableIn
 still-lower {p = p} {l = l} s h e =
     still (record { is = λ r c v a b d. rw e (ap (λ (x : ℕ). eqb x 1) (set-cand l p (getD l p 0 - 1) s h (r * 9 + c) v)) })

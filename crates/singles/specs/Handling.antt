@@ -6,6 +6,7 @@ use mathlib.Core.List.{List}
 use lib.Dec.{leb, ltb}
 use lib.ListN.{length}
 use Rattle.rules.specs.Grid.{Line, across, down, index}
+use Rattle.slab.specs.Layout.{rowHalfAt, placesAt, rowBlacksAt, lengthsAt, slabSize}
 use Rattle.slab.specs.Slab.{cand}
 use Rattle.slab.specs.Ready.{Ready, Next, Moved}
 use Rattle.table.specs.Value.{ValueOf}
@@ -58,12 +59,12 @@ pub record SingletonAsk (n : ℕ) (l : List ℕ) (r c v : ℕ) : Type 0 where
   pub halves : Halves n l head
 
 pub record SingletonDone (n : ℕ) (l l′ : List ℕ) (r c v : ℕ) : Type 0 where
-  pub moved : Moved l l′ 973 1135
+  pub moved : Moved l l′ rowHalfAt placesAt
   pub steps : Steps n l l′
   pub halves : (h : ℕ) → Next l h (r * 9 + c) v → Halves n l h → Halves n l′ (h + 1)
 
 pub record FindAsk (l : List ℕ) (n start stride v : ℕ) : Type 0 where
-  pub size : length l ≡ 5599
+  pub size : length l ≡ slabSize
   pub value : v < 16
   pub cells : Inside start stride n
 
@@ -101,7 +102,7 @@ pub record HiddenAsk (n : ℕ) (l : List ℕ) (r c v : ℕ) : Type 0 where
   pub places : LinePlaces n l head
 
 pub record HiddenDone (n : ℕ) (l l′ : List ℕ) (r c v : ℕ) : Type 0 where
-  pub moved : Moved l l′ 1135 1423
+  pub moved : Moved l l′ placesAt rowBlacksAt
   pub steps : Steps n l l′
   pub places : (h : ℕ) → Next l h (r * 9 + c) v → LinePlaces n l h → LinePlaces n l′ (h + 1)
 
@@ -145,6 +146,6 @@ pub record ConsistencyAsk (n : ℕ) (l : List ℕ) (r c v : ℕ) : Type 0 where
   pub blacks : Blacks n l head
 
 pub record ConsistencyDone (n : ℕ) (l l′ : List ℕ) (r c v : ℕ) : Type 0 where
-  pub moved : Moved l l′ 1423 1585
+  pub moved : Moved l l′ rowBlacksAt lengthsAt
   pub steps : Steps n l l′
   pub blacks : (h : ℕ) → Next l h (r * 9 + c) v → Blacks n l h → Blacks n l′ (h + 1)

@@ -11,6 +11,7 @@ use Rattle.bits.specs.Bit.{bit}
 use Rattle.bits.proofs.BitLaws.{bit-lt, bit-le, bit-taken, bit-kept, shl-one}
 use Rattle.bits.specs.Sum.{same}
 use Rattle.bits.proofs.SumLaws.{same-yes, same-no, sum-same, sum-has, sum-fall, sum-next}
+use Rattle.slab.specs.Layout.{queueRoom, entryPlace, tailAt, slabSize}
 use Rattle.slab.specs.Slab.{cand, tail, entry, waits, lag, candidatesLeft, Struck, One, StrikeAsk}
 
 pub cand-in : (l : List ℕ) (x v : ℕ) → x < 81 → cand l x v ≡ bit v (getD l x 0)
@@ -39,57 +40,57 @@ cand-left l x v h k =
 
 -- the state after a strike
 abbrev pub stricken : List ℕ → ℕ → ℕ → List ℕ
-stricken l cell v = set (set (set l cell (getD l cell 0 - 2 ^ v)) (81 + tail l) (cell * 16 + v)) 972 (tail l + 1)
+stricken l cell v = set (set (set l cell (getD l cell 0 - 2 ^ v)) (entryPlace (tail l)) (cell * 16 + v)) tailAt (tail l + 1)
 
 module _ (l : List ℕ) (cell v : ℕ) (a : StrikeAsk l cell v) where
   has : cand l cell v ≡ 1
   has = cand-in l cell v (a .place) ∙ a .has
 
   -- there is room for it
-  pub free : tail l < 891
+  pub free : tail l < queueRoom
   free = omega (arith, a .sized .room, cand-left l cell v (a .place) (a .value), has)
 
   l₁ : List ℕ
   l₁ = set l cell (getD l cell 0 - 2 ^ v)
 
   l₂ : List ℕ
-  l₂ = set l₁ (81 + tail l) (cell * 16 + v)
+  l₂ = set l₁ (entryPlace (tail l)) (cell * 16 + v)
 
-  long₁ : length l₁ ≡ 5599
+  long₁ : length l₁ ≡ slabSize
   unfolding l₁
   long₁ = length-set l cell (getD l cell 0 - 2 ^ v) ∙ a .sized .size
 
-  long₂ : length l₂ ≡ 5599
+  long₂ : length l₂ ≡ slabSize
   unfolding l₂
-  long₂ = length-set l₁ (81 + tail l) (cell * 16 + v) ∙ long₁
+  long₂ = length-set l₁ (entryPlace (tail l)) (cell * 16 + v) ∙ long₁
 
   pub strike-size : length (stricken l cell v) ≡ length l
   unfolding l₁ l₂
-  strike-size = length-set l₂ 972 (tail l + 1) ∙ long₂ ∙ sym (a .sized .size)
+  strike-size = length-set l₂ tailAt (tail l + 1) ∙ long₂ ∙ sym (a .sized .size)
 
   -- each place
   pub strike-cell : getD (stricken l cell v) cell 0 ≡ getD l cell 0 - 2 ^ v
   unfolding l₁ l₂
   strike-cell =
-      getD-set-other l₂ 972 cell (tail l + 1) 0 (λ e. omega (arith, a .place))
-      ∙ getD-set-other l₁ (81 + tail l) cell (cell * 16 + v) 0 (λ e. omega (arith, a .place))
+      getD-set-other l₂ tailAt cell (tail l + 1) 0 (λ e. omega (arith, a .place))
+      ∙ getD-set-other l₁ (entryPlace (tail l)) cell (cell * 16 + v) 0 (λ e. omega (arith, a .place))
       ∙ getD-set-same l cell (getD l cell 0 - 2 ^ v) 0 (omega (arith, a .place, a .sized .size))
 
   pub strike-entry : entry (stricken l cell v) (tail l) ≡ cell * 16 + v
   unfolding l₁ l₂
   strike-entry =
-      getD-set-other l₂ 972 (81 + tail l) (tail l + 1) 0 (λ e. omega (arith, free))
-      ∙ getD-set-same l₁ (81 + tail l) (cell * 16 + v) 0 (omega (arith, free, long₁))
+      getD-set-other l₂ tailAt (entryPlace (tail l)) (tail l + 1) 0 (λ e. omega (arith, free))
+      ∙ getD-set-same l₁ (entryPlace (tail l)) (cell * 16 + v) 0 (omega (arith, free, long₁))
 
   pub strike-tail : tail (stricken l cell v) ≡ tail l + 1
   unfolding l₁ l₂
-  strike-tail = getD-set-same l₂ 972 (tail l + 1) 0 (omega (arith, long₂))
+  strike-tail = getD-set-same l₂ tailAt (tail l + 1) 0 (omega (arith, long₂))
 
-  pub strike-other : (p : ℕ) → (p ≡ cell → ⊥) → (p ≡ 81 + tail l → ⊥) → (p ≡ 972 → ⊥) → getD (stricken l cell v) p 0 ≡ getD l p 0
+  pub strike-other : (p : ℕ) → (p ≡ cell → ⊥) → (p ≡ entryPlace (tail l) → ⊥) → (p ≡ tailAt → ⊥) → getD (stricken l cell v) p 0 ≡ getD l p 0
   unfolding l₁ l₂
   strike-other p x y z =
-      getD-set-other l₂ 972 p (tail l + 1) 0 z
-      ∙ getD-set-other l₁ (81 + tail l) p (cell * 16 + v) 0 y
+      getD-set-other l₂ tailAt p (tail l + 1) 0 z
+      ∙ getD-set-other l₁ (entryPlace (tail l)) p (cell * 16 + v) 0 y
       ∙ getD-set-other l cell p (getD l cell 0 - 2 ^ v) 0 x
 
   -- the candidates
@@ -118,7 +119,7 @@ module _ (l : List ℕ) (cell v : ℕ) (a : StrikeAsk l cell v) where
 
   -- the queue
   pub strike-old : (i : ℕ) → i < tail l → entry (stricken l cell v) i ≡ entry l i
-  strike-old i h = strike-other (81 + i) (λ e. omega (arith, a .place)) (λ e. omega arith) (λ e. omega (arith, free))
+  strike-old i h = strike-other (entryPlace i) (λ e. omega (arith, a .place)) (λ e. omega arith) (λ e. omega (arith, free))
 
   pub strike-waits : (h e : ℕ) → h ≤ tail l → waits (stricken l cell v) h e ≡ waits l h e + same e (cell * 16 + v)
   unfolding waits
@@ -192,10 +193,10 @@ module _ (l : List ℕ) (cell v t : ℕ) (a : StrikeAsk l cell v) (e : t ≡ tai
   pub strike-enough : 1 * 2 ^ v % 65536 ≤ getD l cell 0
   strike-enough = rw (shl-one v (a .value)) (bit-le v (getD l cell 0) (a .has))
 
-  pub strike-room : t < 891
+  pub strike-room : t < queueRoom
   strike-room = omega (arith, free l cell v a)
 
-  pub strike-done : Struck l (set (set (set l cell (getD l cell 0 - 1 * 2 ^ v % 65536)) (81 + t) (cell * 16 + v)) 972 (t + 1)) (One cell v)
+  pub strike-done : Struck l (set (set (set l cell (getD l cell 0 - 1 * 2 ^ v % 65536)) (entryPlace t) (cell * 16 + v)) tailAt (t + 1)) (One cell v)
   strike-done = rw (shl-one v (a .value), e) (strike-struck l cell v a)
 
 -- a candidate that the cell has not

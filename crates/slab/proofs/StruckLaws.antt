@@ -10,6 +10,7 @@ use lib.ListN.{getD, set, length-set}
 use lib.Seq.{getD-set-other}
 use Rattle.bits.specs.Sum.{same}
 use Rattle.bits.proofs.SumLaws.{sum-same}
+use Rattle.slab.specs.Layout.{entryPlace, tailAt, countersAt}
 use Rattle.slab.specs.Slab.{cand, tail, entry, waits, lag, candidatesLeft, Sized, Grown, Struck}
 use Rattle.slab.proofs.SlabLaws.{cand-lt, cand-same}
 
@@ -64,18 +65,18 @@ struck-as s f g =
     }
 
 -- a counter that moves leaves the table and the queue
-module _ (l : List ℕ) (p k : ℕ) (s : Sized l) (h : 973 ≤ p) where
-  other : (i : ℕ) → i < 973 → getD (set l p k) i 0 ≡ getD l i 0
+module _ (l : List ℕ) (p k : ℕ) (s : Sized l) (h : countersAt ≤ p) where
+  other : (i : ℕ) → i < countersAt → getD (set l p k) i 0 ≡ getD l i 0
   other i n = getD-set-other l p i k 0 (λ e. omega arith)
 
   pub set-cand : (x v : ℕ) → cand (set l p k) x v ≡ cand l x v
   set-cand x v = cand-same l (set l p k) (λ i n. other i (omega arith)) x v
 
   set-tail : tail (set l p k) ≡ tail l
-  set-tail = other 972 (omega arith)
+  set-tail = other tailAt (omega arith)
 
   set-entry : (i : ℕ) → i < tail l → entry (set l p k) i ≡ entry l i
-  set-entry i n = other (81 + i) (omega (arith, s .room))
+  set-entry i n = other (entryPlace i) (omega (arith, s .room))
 
   set-left : candidatesLeft (set l p k) ≡ candidatesLeft l
   unfolding candidatesLeft

@@ -1,2 +1,3 @@
+pub mod Layout
 pub mod Slab
 pub mod Ready

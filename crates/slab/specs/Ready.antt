@@ -5,6 +5,7 @@ use mathlib.Core.Logic.{_⊎_}
 use mathlib.Core.List.{List}
 use lib.ListN.{getD}
 use Rattle.rules.specs.Size.{Size}
+use Rattle.slab.specs.Layout.{countersAt}
 use Rattle.slab.specs.Slab.{tail, entry, lag, Sized, Grown}
 use Rattle.table.specs.Value.{ValueOf}
 
@@ -28,4 +29,4 @@ pub record Next (l : List ℕ) (h x v : ℕ) : Type 0 where
 -- Only counters at a to b - 1 move, besides strikes.
 pub record Moved (l l′ : List ℕ) (a b : ℕ) : Type 0 where
   pub grown : Grown l l′
-  pub rest : (p : ℕ) → 973 ≤ p → (p < a) ⊎ (b ≤ p) → getD l′ p 0 ≡ getD l p 0
+  pub rest : (p : ℕ) → countersAt ≤ p → (p < a) ⊎ (b ≤ p) → getD l′ p 0 ≡ getD l p 0

@@ -8,6 +8,7 @@ use lib.ListN.{length, getD}
 use Rattle.bits.specs.Bit.{bit}
 use Rattle.bits.specs.Sum.{sumOver, same}
 use Rattle.table.specs.Table.{Table}
+use Rattle.slab.specs.Layout.{queueRoom, entryPlace, tailAt, countersAt, slabSize}
 
 -- 1 where the cell at place x has the candidate v, else 0.
 unfoldable pub cand : List ℕ → ℕ → ℕ → ℕ
@@ -19,10 +20,10 @@ tableIn l r c v = eqb (cand l (r * 9 + c) v) 1
 
 -- How many strikes the queue has, and strike i: place * 16 + value.
 abbrev pub tail : List ℕ → ℕ
-tail l = getD l 972 0
+tail l = getD l tailAt 0
 
 abbrev pub entry : List ℕ → ℕ → ℕ
-entry l i = getD l (81 + i) 0
+entry l i = getD l (entryPlace i) 0
 
 -- How often the strike e waits in the queue from h on.
 unfoldable pub waits : List ℕ → ℕ → ℕ → ℕ
@@ -38,8 +39,8 @@ candidatesLeft l = sumOver 0 1296 (λ (k : ℕ). cand l (k / 16) (k % 16))
 
 -- The state has its size, and room in the queue for all candidates that are left.
 pub record Sized (l : List ℕ) : Type 0 where
-  pub size : length l ≡ 5599
-  pub room : tail l + candidatesLeft l ≤ 891
+  pub size : length l ≡ slabSize
+  pub room : tail l + candidatesLeft l ≤ queueRoom
 
 -- What every step keeps: the table only shrinks, and what it loses waits in the queue.
 pub record Grown (l l′ : List ℕ) : Type 0 where
@@ -55,7 +56,7 @@ pub record Struck (l l′ : List ℕ) (Hit : ℕ → ℕ → Type 0) : Type 0 wh
   pub grown : Grown l l′
   pub gone : (x v : ℕ) → v < 16 → Hit x v → cand l′ x v ≡ 0
   pub only : (x v : ℕ) → v < 16 → cand l x v ≡ 1 → cand l′ x v ≡ 0 → Hit x v
-  pub rest : (p : ℕ) → 973 ≤ p → getD l′ p 0 ≡ getD l p 0
+  pub rest : (p : ℕ) → countersAt ≤ p → getD l′ p 0 ≡ getD l p 0
 
 -- One candidate of one cell.
 unfoldable pub One : ℕ → ℕ → ℕ → ℕ → Type 0
@@ -74,7 +75,7 @@ pub record StrikeAsk (l : List ℕ) (cell v : ℕ) : Type 0 where
 
 -- A counter that is not 0.
 pub record CounterAsk (l : List ℕ) (p : ℕ) : Type 0 where
-  pub size : length l ≡ 5599
-  pub from : 973 ≤ p
-  pub to : p < 5599
+  pub size : length l ≡ slabSize
+  pub from : countersAt ≤ p
+  pub to : p < slabSize
   pub positive : 0 < getD l p 0

@@ -1,4 +1,5 @@
-// The state of the queue solver in one slice of 5,599 numbers, and its primitives (in the Rust: QueueSolverState and clear_mask).
+// The state of the queue solver in one slice of numbers, and its primitives (in the Rust: QueueSolverState and clear_mask).
+// What stands where is said twice, by the same names: here for the code, in specs/Layout.antt for the definitions.
 // A cell has the place row * 9 + column, a line the number row or 9 + column, at every size.
 use value::wide;
 ghost use mathlib.Core.Path.{_≡_};
@@ -11,28 +12,32 @@ pub struct Slab {
 }
 
 impl Slab {
-    // The candidates of the cells are at 0 to 80, the queue of strikes at 81 to 971.
+    // The candidates of the 81 cells stand first, then the queue of strikes, then how many it has.
     pub const QUEUE: usize = 81;
-    // How many strikes the queue has.
-    pub const TAIL: usize = 972;
+
+    pub const QUEUE_ROOM: usize = 81 * 11;
+
+    pub const TAIL: usize = Slab::QUEUE + Slab::QUEUE_ROOM;
     // How many candidates a cell's row half and its column half have.
-    pub const ROW_HALF: usize = 973;
+    pub const ROW_HALF: usize = Slab::TAIL + 1;
 
-    pub const COL_HALF: usize = 1054;
+    pub const COL_HALF: usize = Slab::ROW_HALF + 81;
     // How many places a value has in a line: line * 16 + value.
-    pub const PLACES: usize = 1135;
+    pub const PLACES: usize = Slab::COL_HALF + 81;
     // How many row blacks and column blacks a cell has.
-    pub const ROW_BLACKS: usize = 1423;
+    pub const ROW_BLACKS: usize = Slab::PLACES + 18 * 16;
 
-    pub const COL_BLACKS: usize = 1504;
-    // How many live arrangements a line has, and which: line * 78 + place in the list.
-    pub const LENGTHS: usize = 1585;
+    pub const COL_BLACKS: usize = Slab::ROW_BLACKS + 81;
+    // How many live arrangements a line has, and which: line * PER_LINE + place in the list.
+    pub const LENGTHS: usize = Slab::COL_BLACKS + 81;
 
-    pub const LIVE: usize = 1603;
+    pub const LIVE: usize = Slab::LENGTHS + 18;
+
+    pub const PER_LINE: usize = 78;
     // How many live arrangements of a line have a value at a place: (line * 9 + place) * 16 + value.
-    pub const SUPPORT: usize = 3007;
+    pub const SUPPORT: usize = Slab::LIVE + 18 * Slab::PER_LINE;
 
-    pub const SIZE: usize = 5599;
+    pub const SIZE: usize = Slab::SUPPORT + 18 * 9 * 16;
 }
 
 // Strikes a candidate that the cell has: it leaves the table and enters the queue.

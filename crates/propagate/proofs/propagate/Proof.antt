@@ -1,6 +1,7 @@
 -- `propagate::propagate` meets its contract. Assumes nothing.
 use native.Mathlib.Omega.{arith}
-use Prim.Native.Nat.{_+_, _-_, _/_}
+use Prim.Native.Nat.{_-_, _/_}
+use Rattle.slab.specs.Layout.{queueRoom, entryPlace}
 use Rattle.propagate.proofs.Loop.{Propagating, loop-start, loop-size, loop-tail, loop-cell, loop-ask, loop-empty, loop-next}
 use Rattle.propagate.proofs.Rest.{loop-end}
 use mathlib.Core.Path.{refl}
@@ -16,7 +17,7 @@ abbrev Inv-loop : tie.InvT-loop
 Inv-loop st₀ words n head₀ st head = Propagating n words st₀ st head
 
 abbrev μ-loop : tie.MeasureT-loop
-μ-loop st₀ words n head₀ st head = 891 - head
+μ-loop st₀ words n head₀ st head = queueRoom - head
 
 loop-holds : tie.Need-loop-holds Inv-loop μ-loop
 loop-holds c = loop-start (c .before .before .pre)
@@ -37,7 +38,7 @@ slice-read-strike : tie.Need-slice-read-strike Inv-loop μ-loop
 slice-read-strike c = search needs
 
 cast-strike : tie.Need-cast-strike Inv-loop μ-loop
-cast-strike c = fits-under _ _ 65536 (c .slice-known3 .given (81 + c .before .before .before .loop .head) .fits) tt
+cast-strike c = fits-under _ _ 65536 (c .slice-known3 .given (entryPlace (c .before .before .before .loop .head)) .fits) tt
 
 mul-if2 : tie.Need-mul-if2 Inv-loop μ-loop
 mul-if2 c = omega (arith, loop-cell (c .before .before .before .loop .inv) (c .before .if1 .taken) _ refl)
@@ -64,7 +65,7 @@ loop-again : tie.Need-loop-again Inv-loop μ-loop
 loop-again c =
     let l = c .before .before .before .before .before .before .before .before .before .loop in
     loop-next (l .inv) (c .before .before .before .before .before .before .before .if1 .taken) _ refl (c .before .before .before .before .if2 .left)
-    (c .before .before .before .before .before .slice-known4 .given (getD (l .st) (81 + l .head) 0 / 16) .fits) (c .before .before .update .ensures)
+    (c .before .before .before .before .before .slice-known4 .given (getD (l .st) (entryPlace (l .head)) 0 / 16) .fits) (c .before .before .update .ensures)
 
 slice-write-st : tie.Need-slice-write-st Inv-loop μ-loop
 slice-write-st c = search needs
