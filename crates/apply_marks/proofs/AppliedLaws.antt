@@ -19,7 +19,8 @@ use Rattle.table.specs.Value.{ValueOf}
 use Rattle.set_cell.specs.Setting.{SetHit, SetAsk}
 use Rattle.set_cell.proofs.SetLaws.{set-table}
 use Rattle.invariants.specs.State.{Lagging}
-use Rattle.invariants.proofs.StateLaws.{value-of, value-small, one-table, kept-struck, lagging-struck}
+use Rattle.invariants.proofs.StateLaws.{one-table, kept-struck, lagging-struck}
+use Rattle.line_laws.proofs.CellValues.{value-of, value-small}
 use Rattle.mark_list.specs.declared.Mark.{Mark}
 use Rattle.mark_list.specs.Unpacked.{unpacked, wordAt}
 use Rattle.mark_list.proofs.MarkLaws.{marks-next, marks-end, mark-numbered}

@@ -15,7 +15,9 @@ use Rattle.slab.proofs.StruckLaws.{grown-refl, grown-trans, grown-gone}
 use Rattle.slab.proofs.ReadyLaws.{lag-pop}
 use Rattle.slab.specs.Ready.{Next}
 use Rattle.words.specs.Word.{Known, wordOf, part}
-use Rattle.arcs.specs.Arc.{cellAt, blackAt, HalfOf, lives, live, support, Tallied, Served, Alive, DeadArrangement, Held, Holding}
+use Rattle.arcs.specs.Arc.{lives, live, support, Tallied, Served, Alive, DeadArrangement, Held, Holding}
+use Rattle.table.specs.Value.{HalfOf}
+use Rattle.table.specs.Lines.{cellAt, blackAt}
 use Rattle.arcs.proofs.SunkLaws.{cell-row, cell-column}
 use Rattle.arcs.specs.Sweep.{UnsupportedIn, LineMoved, Removed, Outlives, untouched, served, AllAlive, Same}
 

@@ -12,10 +12,11 @@ use Rattle.slab.specs.Slab.{cand, tail}
 use Rattle.slab.proofs.StruckLaws.{grown-gone}
 use Rattle.slab.proofs.ReadyLaws.{ready-grown, next-grown}
 use Rattle.slab.specs.Ready.{Next}
-use Rattle.table.specs.Value.{ValueOf}
+use Rattle.table.specs.Value.{ValueOf, HalfOf}
 use Rattle.words.specs.Word.{wordOf}
 use Rattle.words.proofs.PatternLaws.{part-other}
-use Rattle.arcs.specs.Arc.{cellAt, blackAt, LineOf, HalfOf, lives, Tallied, Arc, ArcAsk, ArcDone}
+use Rattle.arcs.specs.Arc.{lives, Tallied, Arc, ArcAsk, ArcDone}
+use Rattle.table.specs.Lines.{cellAt, blackAt, LineOf}
 use Rattle.arcs.proofs.SunkLaws.{cell-row, cell-column}
 use Rattle.arcs.proofs.LineLaws.{line-in}
 use Rattle.arcs.specs.Kill.{Placed}

@@ -19,7 +19,8 @@ use Rattle.words.proofs.WordFacts.{mask-even}
 use Rattle.words.proofs.PatternLaws.{part-yes, part-pattern, part-digit, pattern-beyond, black-alone}
 use Rattle.words.proofs.WordLaws.{known-subset, known-fits, known-fields, known-steps, known-shaped}
 use Rattle.words.proofs.Arranged.{digits-mem, known-length, place-in, steps-place, pattern-allows, covered-place}
-use Rattle.arcs.specs.Arc.{cellAt, blackAt, DeadArrangement, emptied, unplaced}
+use Rattle.arcs.specs.Arc.{DeadArrangement, emptied, unplaced}
+use Rattle.table.specs.Lines.{cellAt, blackAt}
 use Rattle.arcs.proofs.SunkLaws.{cell-in}
 use Rattle.arcs.specs.Kill.{Placed}
 use Rattle.arcs.proofs.KillLaws.{black-low, set-high}

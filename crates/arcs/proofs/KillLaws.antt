@@ -16,7 +16,8 @@ use Rattle.slab.proofs.StruckLaws.{grown-sized, grown-trans}
 use Rattle.words.specs.Word.{setOf, innerOf, fromOf, toOf, headOf, lastOf, part, steps}
 use Rattle.words.proofs.StepLaws.{steps-none, steps-zero, steps-same}
 use Rattle.words.proofs.PatternLaws.{part-lt, part-none, part-digit, pattern-head, pattern-last, pattern-inner-black, pattern-beyond, pattern-past}
-use Rattle.arcs.specs.Arc.{blackAt, support}
+use Rattle.arcs.specs.Arc.{support}
+use Rattle.table.specs.Lines.{blackAt}
 use Rattle.arcs.specs.Sunk.{Sunk, single, DropAsk}
 use Rattle.arcs.proofs.SunkLaws.{slot-cell, sunk-as, sunk-both}
 use Rattle.arcs.proofs.WalkLaws.{placed-small}

@@ -19,7 +19,9 @@ use Rattle.words.specs.Word.{Known, arrangementOf, wordOf, part}
 use Rattle.words.proofs.Arranged.{digits-narrow, allows-narrow}
 use Rattle.words.proofs.PatternLaws.{part-none, part-other, pattern-past}
 use Rattle.words.proofs.WordLaws.{known-shaped}
-use Rattle.arcs.specs.Arc.{lineAt, cellAt, blackAt, LineOf, HalfOf, support, DeadArrangement, emptied, unplaced, Unsupported}
+use Rattle.arcs.specs.Arc.{support, DeadArrangement, emptied, unplaced, Unsupported}
+use Rattle.table.specs.Value.{HalfOf}
+use Rattle.table.specs.Lines.{lineAt, cellAt, blackAt, LineOf}
 use Rattle.arcs.proofs.KillLaws.{black-low, black-high}
 
 pub line-in : {n ℓ : ℕ} → Size n → LineOf n ℓ → ℓ < 18

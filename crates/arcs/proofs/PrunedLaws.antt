@@ -15,7 +15,8 @@ use Rattle.slab.proofs.SlabLaws.{cand-lt}
 use Rattle.slab.proofs.StruckLaws.{grown-trans}
 use Rattle.slab.specs.Ready.{Next}
 use Rattle.words.specs.Word.{wordOf, part}
-use Rattle.arcs.specs.Arc.{cellAt, blackAt, LineOf, lives, live, Tallied, DeadArrangement, Listed, Fewer, Older, Holding, Unsupported, Pruned}
+use Rattle.arcs.specs.Arc.{lives, live, Tallied, DeadArrangement, Listed, Fewer, Older, Holding, Unsupported, Pruned}
+use Rattle.table.specs.Lines.{cellAt, blackAt, LineOf}
 use Rattle.arcs.proofs.LineLaws.{line-in, dead-kept, unsupported-kept}
 use Rattle.arcs.proofs.AliveLaws.{alive-next, tallied-same, all-alive-same, holding-same}
 use Rattle.arcs.specs.Sweep.{untouched, AllAlive, Same, LineDone}

@@ -15,7 +15,9 @@ use Rattle.slab.proofs.StruckLaws.{grown-trans, grown-sized, grown-gone, set-ca
 use Rattle.words.specs.Word.{Known, wordOf, part}
 use Rattle.words.proofs.PatternLaws.{part-lt}
 use Rattle.words.proofs.WordLaws.{known-shaped}
-use Rattle.arcs.specs.Arc.{cellAt, blackAt, HalfOf, live, support, Tallied}
+use Rattle.arcs.specs.Arc.{live, support, Tallied}
+use Rattle.table.specs.Value.{HalfOf}
+use Rattle.table.specs.Lines.{cellAt, blackAt}
 use Rattle.arcs.specs.Sunk.{cellOfPlace, Lost, Sunk}
 use Rattle.arcs.proofs.SunkLaws.{slot-cell}
 use Rattle.arcs.specs.Kill.{parts, KillAsk}

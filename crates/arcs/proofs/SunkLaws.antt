@@ -12,7 +12,8 @@ use Rattle.slab.specs.Layout.{countersAt, supportPlace}
 use Rattle.slab.specs.Slab.{cand, Sized, Grown, Struck, One, CounterAsk}
 use Rattle.slab.proofs.SlabLaws.{cand-lt}
 use Rattle.slab.proofs.StruckLaws.{grown-refl, grown-trans, grown-sized, grown-gone, set-cand, set-grown}
-use Rattle.arcs.specs.Arc.{cellAt, support}
+use Rattle.arcs.specs.Arc.{support}
+use Rattle.table.specs.Lines.{cellAt}
 use Rattle.arcs.specs.Sunk.{cellOfPlace, Lost, Sunk, single, DropAsk}
 
 -- ---- cells

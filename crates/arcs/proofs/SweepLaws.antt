@@ -15,7 +15,8 @@ use Rattle.slab.proofs.StruckLaws.{grown-refl, grown-trans, set-cand, set-grown
 use Rattle.slab.proofs.ReadyLaws.{ready-grown, next-grown}
 use Rattle.slab.specs.Ready.{Ready, Next}
 use Rattle.words.specs.Word.{Known, wordOf, part}
-use Rattle.arcs.specs.Arc.{cellAt, blackAt, lives, live, support, Tallied, Alive, DeadArrangement, Listed, Fewer, Older, Held, Holding}
+use Rattle.arcs.specs.Arc.{lives, live, support, Tallied, Alive, DeadArrangement, Listed, Fewer, Older, Held, Holding}
+use Rattle.table.specs.Lines.{cellAt, blackAt}
 use Rattle.arcs.proofs.LineLaws.{line-in, dead-kept, sum-each}
 use Rattle.arcs.proofs.AliveLaws.{cell-once, alive-kept, alive-next, tallied-same, within-refl, within-trans, holding-drop}
 use Rattle.arcs.specs.Sweep.{RemoveAsk, Removed, Outlives, untouched, Aging, AllAlive, SweepAsk, Sweeping, Swept, LineDone}

@@ -13,7 +13,9 @@ use Rattle.bits.proofs.SumLaws.{same-yes, same-no}
 use Rattle.slab.proofs.StruckLaws.{grown-gone}
 use Rattle.words.specs.Word.{wordOf, part}
 use Rattle.slab.specs.Layout.{perLine, slabSize}
-use Rattle.arcs.specs.Arc.{cellAt, blackAt, HalfOf, live}
+use Rattle.arcs.specs.Arc.{live}
+use Rattle.table.specs.Value.{HalfOf}
+use Rattle.table.specs.Lines.{cellAt, blackAt}
 use Rattle.arcs.proofs.KillLaws.{black-low}
 use Rattle.arcs.proofs.WalkLaws.{placed-small}
 use Rattle.arcs.proofs.TestLaws.{shift-part}

@@ -1,42 +1,19 @@
 -- The live arrangements of a line and their supports in the state, and what handling a strike does to them. Assumes nothing.
-use Prim.Native.Nat.{ℕ, _+_, _-_, _*_, _≤_, _<_}
+use Prim.Native.Nat.{ℕ, _+_, _*_, _≤_, _<_}
 use mathlib.Core.Path.{_≡_}
 use mathlib.Core.Logic.{_⊎_}
-use mathlib.Core.Bool.{Bool, true, false, cond}
+use mathlib.Core.Bool.{Bool, true, false}
 use mathlib.Core.List.{List, List·Memᴰ}
-use lib.Dec.{ltb}
 use lib.ListN.{length, getD}
 use Rattle.bits.specs.Sum.{sumOver}
-use Rattle.rules.specs.Grid.{Line, across, down}
 use Rattle.table.specs.Table.{places}
 use Rattle.table.specs.Closed.{place, allows}
 use Rattle.slab.specs.Layout.{lengthsAt, lengthPlace, perLine, livePlace, supportPlace, slabSize}
 use Rattle.slab.specs.Slab.{cand, lag, tableIn}
 use Rattle.slab.specs.Ready.{Ready, Next, Moved}
-use Rattle.table.specs.Value.{ValueOf}
+use Rattle.table.specs.Value.{ValueOf, HalfOf}
 use Rattle.words.specs.Word.{Known, arrangementOf, wordOf, part, Words}
-
--- ---- lines by number: the rows are 0 to 8, the columns 9 to 17
-
--- The line with number ℓ.
-unfoldable pub lineAt : ℕ → Line
-lineAt ℓ = cond (ltb ℓ 9) (across ℓ) (down (ℓ - 9))
-
--- The cell at place p of line ℓ.
-unfoldable pub cellAt : ℕ → ℕ → ℕ
-cellAt ℓ p = cond (ltb ℓ 9) (ℓ * 9 + p) (p * 9 + (ℓ - 9))
-
--- The first black of line ℓ.
-unfoldable pub blackAt : ℕ → ℕ
-blackAt ℓ = cond (ltb ℓ 9) 8 10
-
--- The lines of size n.
-unfoldable pub LineOf : ℕ → ℕ → Type 0
-LineOf n ℓ = (ℓ < n) ⊎ ((9 ≤ ℓ) × (ℓ < 9 + n))
-
--- A value of the half whose first black is k: a digit, or one of the line's own blacks.
-unfoldable pub HalfOf : ℕ → ℕ → Type 0
-HalfOf k v = (v < 8) ⊎ ((k ≤ v) × (v < k + 2))
+use Rattle.table.specs.Lines.{lineAt, cellAt, blackAt, LineOf}
 
 -- ---- the counters: how many arrangements of line ℓ are live, which they are, and how many of them have the value v at place p: support l (ℓ * 9 + p) v
 

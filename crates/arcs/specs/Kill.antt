@@ -7,7 +7,8 @@ use Rattle.bits.specs.Sum.{same}
 use Rattle.rules.specs.Size.{Size}
 use Rattle.slab.specs.Slab.{Sized}
 use Rattle.words.specs.Word.{setOf, innerOf, part, Shaped}
-use Rattle.arcs.specs.Arc.{cellAt, blackAt, support}
+use Rattle.arcs.specs.Arc.{support}
+use Rattle.table.specs.Lines.{cellAt, blackAt}
 
 -- A line by its number, and as the code walks it: by its first cell and its stride.
 pub record Placed (line start stride : ℕ) : Type 0 where

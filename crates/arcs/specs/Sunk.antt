@@ -7,7 +7,8 @@ use Rattle.bits.specs.Bit.{bit}
 use Rattle.bits.specs.Sum.{same}
 use Rattle.slab.specs.Layout.{countersAt, supportPlace}
 use Rattle.slab.specs.Slab.{cand, Sized, Grown}
-use Rattle.arcs.specs.Arc.{cellAt, support}
+use Rattle.arcs.specs.Arc.{support}
+use Rattle.table.specs.Lines.{cellAt}
 
 -- The cell of the place y of a line: y is line * 9 + place.
 unfoldable pub cellOfPlace : ℕ → ℕ

@@ -8,7 +8,9 @@ use Rattle.slab.specs.Layout.{countersAt, lengthsAt, perLine, livePlace, suppor
 use Rattle.slab.specs.Slab.{cand, Grown}
 use Rattle.slab.specs.Ready.{Ready, Next}
 use Rattle.words.specs.Word.{wordOf, part, Words}
-use Rattle.arcs.specs.Arc.{cellAt, blackAt, LineOf, HalfOf, lives, live, support, Tallied, Alive, Fewer, Older, Holding, Unsupported}
+use Rattle.arcs.specs.Arc.{lives, live, support, Tallied, Alive, Fewer, Older, Holding, Unsupported}
+use Rattle.table.specs.Value.{HalfOf}
+use Rattle.table.specs.Lines.{cellAt, blackAt, LineOf}
 use Rattle.arcs.specs.Kill.{Placed}
 
 -- ---- one arrangement leaves

@@ -2,17 +2,13 @@
 use Prim.Native.Nat.{ℕ, _+_, _-_, _*_, _/_, _%_, _≤_, _<_, min}
 use mathlib.Core.Path.{_≡_, refl, sym, _∙_, subst}
 use mathlib.Core.Bool.{true}
-use mathlib.Core.Logic.{inl, inr}
 use mathlib.Core.List.{List, List·Memᴰ}
 use native.Mathlib.Omega.{arith}
-use native.Mathlib.Decide.{ℕ-discrete}
-use Rattle.tally.proofs.TallyLaws.{span-mem}
-use Rattle.rules.specs.Grid.{digits, Puzzle, across}
+use Rattle.rules.specs.Grid.{Puzzle, across}
 use Rattle.table.specs.Table.{left, half, firstBlack}
 use Rattle.table.specs.Steps.{struck, taken}
 use Rattle.table.specs.Reading.{choices, openCells, total}
-use Rattle.line_laws.proofs.Half.{digit-in, first-in, second-in}
-use Rattle.soundness.proofs.CellValues.{half-every}
+use Rattle.line_laws.proofs.CellValues.{half-every, value-small, row-half-value}
 use Rattle.table.specs.Value.{IsValue, ValueOf}
 use Rattle.soundness.proofs.SameLaws.{same-left, same-ext}
 use Rattle.soundness.specs.SameGrids.{Within}
@@ -25,17 +21,7 @@ use Rattle.set_cell.specs.Setting.{SetHit}
 use Rattle.set_cell.proofs.SetLaws.{set-table, yes-table, no-table}
 use Rattle.pick.specs.Choice.{Branch}
 use Rattle.pick.proofs.ChoiceLaws.{row-choices-at}
-use Rattle.invariants.proofs.StateLaws.{value-small, within-sub, one-table}
-
--- a value below 10 is one of the row half
-pub row-half-value : (n v : ℕ) → ValueOf n v → v < 10 → List·Memᴰ v (half n 8)
-unfolding ValueOf digits
-row-half-value n v (inl h) k = digit-in n 8 (span-mem 1 (n - 2) v (h .0) (omega arith))
-row-half-value n v (inr h) k =
-    elim (ℕ-discrete v 8) [
-      | yes e ↦ subst (λ y. List·Memᴰ y (half n 8)) (sym e) (first-in n 8)
-      | no e ↦ let q : v ≡ 9 = omega (arith, h .0) in subst (λ y. List·Memᴰ y (half n 8)) (sym q) (second-in n 8)
-    ]
+use Rattle.invariants.proofs.StateLaws.{within-sub, one-table}
 
 module _ {n : ℕ} {l : List ℕ} {x v : ℕ} (ready : Ready n l) (b : Branch n l x v) where
   small : n ≤ 9

@@ -14,7 +14,7 @@ use Rattle.rules.proofs.GridLaws.{solution-way, way-solution}
 use Rattle.rules.specs.Mark.{rejects, markRow, markColumn, markValue, leftBlack, blackWith, has, keepsMark, keepsMarks}
 use Rattle.rules.specs.Number.{symbols, grids, solves}
 use Rattle.rules.proofs.Samples.{three}
-use Rattle.soundness.proofs.CellValues.{half-every}
+use Rattle.line_laws.proofs.CellValues.{half-every}
 use Rattle.soundness.proofs.Taken.{same-half}
 use Rattle.table.specs.Table.{Table, places, firstBlack, half, everyValue, own, fits, bitOf, hasBit, tableOf, sameHalf}
 use Rattle.table.specs.Closed.{Closed}

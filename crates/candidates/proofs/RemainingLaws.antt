@@ -27,18 +27,17 @@ use Rattle.line_laws.proofs.Half.{first-in, second-in}
 use Rattle.line_laws.specs.Grids.{GridOf}
 use Rattle.settled.proofs.EmptyLaws.{empty-left}
 use Rattle.settled.specs.EmptyCell.{Empty}
-use Rattle.soundness.proofs.CellValues.{CellValue, digit-value, row-black, column-black, cell-value, half-every}
+use Rattle.line_laws.proofs.CellValues.{CellValue, digit-value, row-black, column-black, cell-value, half-every, value-small, value-every}
 use Rattle.table.specs.Value.{IsValue}
 use Rattle.soundness.proofs.SameLaws.{same-left, same-ext, same-trans}
 use Rattle.soundness.specs.SameGrids.{SameGrids}
-use Rattle.soundness.proofs.CellValues.{half-every}
 use Rattle.soundness.proofs.Taken.{same-half}
 use Rattle.soundness.proofs.MarkLaws.{marks-fits, rejected-gone, taken-alone}
 use Rattle.soundness.specs.Marks.{AcceptedMark}
 use Rattle.soundness.proofs.MarkLaws as marks
 use Rattle.slab.specs.Slab.{tableIn}
 use Rattle.invariants.specs.State.{Propagated}
-use Rattle.invariants.proofs.StateLaws.{value-small, value-every, table-kept}
+use Rattle.invariants.proofs.StateLaws.{table-kept}
 use Rattle.written.specs.Published.{PublishedTable}
 use Rattle.written.proofs.MaskLaws.{published-table}
 use Rattle.prepare.specs.Prepared.{Marked}

@@ -11,7 +11,7 @@ use Rattle.table.specs.Lines.{Places, rowOf, columnOf}
 use Rattle.line_laws.proofs.Half.{digit-in, first-in, second-in}
 use Rattle.line_laws.proofs.Arranged.{IsArrangement, arranged, allows-half, step-lt}
 use Rattle.line_laws.proofs.GridLines.{place-in, places-cell}
-use Rattle.soundness.proofs.CellValues.{half-every}
+use Rattle.line_laws.proofs.CellValues.{half-every}
 use Rattle.table.specs.Value.{IsValue}
 
 -- ---- one line

@@ -18,7 +18,8 @@ use Rattle.slab.proofs.SlabLaws.{cand-lt}
 use Rattle.slab.proofs.ReadyLaws.{ready-valid}
 use Rattle.slab.specs.Ready.{Ready}
 use Rattle.set_cell.proofs.SettingLaws.{or-left, or-right}
-use Rattle.set_cell.proofs.SetLaws.{value-range, table-yes, yes-table, no-table}
+use Rattle.set_cell.proofs.SetLaws.{table-yes, yes-table, no-table}
+use Rattle.line_laws.proofs.CellValues.{value-range}
 use Rattle.counters.specs.Counters.{IsSet, AllSet, NoBlacks, InGrid, halfValue, halvesBase, placesBase, halves, linePlaces, blacksBase, ownBlack, crossBlack, cellBlacks, HalvesOf, PlacesOf, BlacksOf, Halves, LinePlaces, Blacks}
 use Rattle.counters.proofs.CounterLaws.{ruled-rest}
 use Rattle.counters.proofs.Families.{value-narrow, value-once, value-in, HalfPlace, half-place, fine-halves, fine-places, fine-blacks}

@@ -17,7 +17,7 @@ use Rattle.soundness.proofs.MarkLaws.{marks-number}
 use Rattle.soundness.proofs.MarkLaws as marks
 use Rattle.slab.specs.Slab.{tableIn}
 use Rattle.fresh.specs.Fresh.{Blank}
-use Rattle.invariants.proofs.StateLaws.{value-small}
+use Rattle.line_laws.proofs.CellValues.{value-small}
 use Rattle.backtrack.specs.Search.{SearchAsk, Searched}
 use Rattle.prepare.specs.Prepared.{PrepareAsk, Prepared, Marked}
 use Rattle.engine.specs.declared.Counted.the-variants.{Refused, Count}

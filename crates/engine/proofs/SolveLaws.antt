@@ -23,7 +23,7 @@ use Rattle.soundness.proofs.MarkLaws.{within-solution}
 use Rattle.soundness.proofs.MarkLaws as marks
 use Rattle.table.specs.Steps.{markedAll}
 use Rattle.slab.specs.Slab.{tableIn}
-use Rattle.invariants.proofs.StateLaws.{value-small}
+use Rattle.line_laws.proofs.CellValues.{value-small}
 use Rattle.backtrack.specs.Search.{SearchAsk, Searched}
 use Rattle.prepare.specs.Prepared.{Prepared, Marked}
 use Rattle.engine.specs.declared.Solved.{Solved}

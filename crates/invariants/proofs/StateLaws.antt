@@ -1,30 +1,28 @@
 -- What stays while only some counters move. Assumes nothing.
-use Prim.Native.Nat.{ℕ, _+_, _-_, _*_, _/_, _%_, _≤_, _<_}
+use Prim.Native.Nat.{ℕ, _+_, _*_, _/_, _%_, _≤_, _<_}
 use mathlib.Core.Path.{_≡_, refl, sym, ap, _∙_, subst}
 use mathlib.Core.Bool.{Bool, true, false, not, _&&_}
-use mathlib.Core.Logic.{_⊎_, inl, inr}
+use mathlib.Core.Logic.{inr}
 use mathlib.Core.List.{List, List·Memᴰ}
 use native.Mathlib.Omega.{arith}
-use native.Mathlib.Decide.{ℕ-discrete, decLt}
-use lib.Dec.{eqb, ltb, leb}
+use native.Mathlib.Decide.{ℕ-discrete}
+use lib.Dec.{eqb, ltb}
 use lib.ListN.{getD}
-use borrow.Author.Tests.{eqb-true, eq-eqb, ne-eqb, ltb-true, lt-ltb, le-leb}
+use borrow.Author.Tests.{eqb-true, eq-eqb, ne-eqb, ltb-true, lt-ltb}
 use Rattle.tally.specs.Tally.{any}
 use Rattle.tally.proofs.TallyLaws.{and-left, and-right, and-both, any-in, any-mem}
-use Rattle.rules.specs.Grid.{across, down, Puzzle, target}
+use Rattle.rules.specs.Grid.{Puzzle, target}
 use Rattle.rules.specs.Mark.{has}
 use Rattle.table.specs.Closed.{arrangements}
 use Rattle.table.specs.Table.{everyValue, fits}
-use Rattle.line_laws.proofs.Half.{digit-range}
 use Rattle.line_laws.specs.Grids.{GridOf}
-use Rattle.soundness.proofs.CellValues.{CellValue, cell-value, digit-value, row-black, column-black, half-every, fits-has}
-use Rattle.table.specs.Value.{IsValue, ValueOf}
+use Rattle.soundness.proofs.GridValues.{fits-has}
+use Rattle.line_laws.proofs.CellValues.{value-small}
+use Rattle.table.specs.Value.{IsValue}
 use Rattle.soundness.proofs.SameLaws.{within-fits}
 use Rattle.soundness.specs.SameGrids.{Within}
 use Rattle.table.specs.Steps.{struck}
 use Rattle.set_cell.proofs.SetLaws.{yes-table, no-table}
-use Rattle.set_cell.proofs.SettingLaws.{or-right}
-use Rattle.counters.proofs.Lines.{in-half}
 use Rattle.bits.proofs.SumLaws.{sum-same}
 use Rattle.slab.specs.Layout.{countersAt, lengthsAt, lengthPlace, livePlace, supportPlace}
 use Rattle.slab.specs.Slab.{cand, tableIn, tail, lag, Grown, Struck, One}
@@ -34,35 +32,11 @@ use Rattle.slab.specs.Ready.{Moved}
 use Rattle.words.specs.Word.{arrangementOf, wordOf, part}
 use Rattle.counters.proofs.CounterLaws.{moved-struck}
 use Rattle.counters.proofs.Families.{halves-moved, places-moved, blacks-moved}
-use Rattle.arcs.specs.Arc.{cellAt, blackAt, lives, live, support, Tallied, Alive, Arc, Held}
-use Rattle.invariants.specs.State.{lineNumber, candidatesOf, Kept, Occupied, Lagging}
+use Rattle.arcs.specs.Arc.{lives, live, support, Tallied, Alive, Arc, Held}
+use Rattle.table.specs.Lines.{cellAt, blackAt, lineNumber}
+use Rattle.invariants.specs.State.{candidatesOf, Kept, Occupied, Lagging}
 
 -- ---- tables that shrink
-
-pub value-small : (n v : ℕ) → n ≤ 9 → IsValue n v → v < 16
-value-small n v z m = go (cell-value n v m)
-  where
-    go : CellValue n v → v < 16
-    go (digit-value q h) = omega arith
-    go (row-black q l h) = omega arith
-    go (column-black q l h) = omega arith
-
--- the values of a cell, as the state has them and as the rules have them
-pub value-of : (n v : ℕ) → IsValue n v → ValueOf n v
-unfolding ValueOf
-value-of n v m = go (cell-value n v m)
-  where
-    go : CellValue n v → ((1 ≤ v) × (v < n - 1)) ⊎ ((8 ≤ v) × (v < 12))
-    go (digit-value q h) = inl (digit-range n v q)
-    go (row-black q l h) = inr (l, omega arith)
-    go (column-black q l h) = inr (omega arith, h)
-
-pub value-every : (n v : ℕ) → n ≤ 9 → ValueOf n v → IsValue n v
-value-every n v z m =
-    elim (decLt v 10) [
-      | yes h ↦ half-every n (across 0) v (in-half n (across 0) v m (lt-ltb v 10 h))
-      | no h ↦ half-every n (down 0) v (in-half n (down 0) v m (or-right (ltb v 8) (leb 10 v) (le-leb 10 v (omega arith))))
-    ]
 
 -- a candidate of a grid
 pub candidate-at : (n : ℕ) (g : List ℕ) (r c v : ℕ) → r < n → c < n → n ≤ 9 → IsValue n v → has n g r c v ≡ true → candidatesOf n g (r * 9 + c) v ≡ true

@@ -1,12 +1,12 @@
 -- What holds of the solver's state between steps, and what propagation leaves. Assumes nothing.
-use Prim.Native.Nat.{ℕ, _+_, _/_, _%_, _≤_, _<_}
+use Prim.Native.Nat.{ℕ, _/_, _%_, _≤_, _<_}
 use mathlib.Core.Path.{_≡_}
 use mathlib.Core.Bool.{Bool, true, false, _&&_}
 use mathlib.Core.List.{List, List·Memᴰ}
 use lib.Dec.{eqb, ltb}
 use lib.ListN.{length}
 use Rattle.tally.specs.Tally.{any}
-use Rattle.rules.specs.Grid.{Line, across, down, index, Puzzle, target}
+use Rattle.rules.specs.Grid.{Line, index, Puzzle, target}
 use Rattle.rules.specs.Mark.{has}
 use Rattle.table.specs.Closed.{arrangements, Closed}
 use Rattle.table.specs.Table.{everyValue, fits}
@@ -17,14 +17,10 @@ use Rattle.slab.specs.Slab.{cand, tableIn, tail, lag}
 use Rattle.slab.specs.Ready.{Ready}
 use Rattle.words.specs.Word.{Words, arrangementOf}
 use Rattle.counters.specs.Counters.{Halves, LinePlaces, Blacks}
-use Rattle.arcs.specs.Arc.{LineOf, lives, live, Arc, Holding}
+use Rattle.arcs.specs.Arc.{lives, live, Arc, Holding}
+use Rattle.table.specs.Lines.{LineOf, lineNumber}
 
 -- ---- the live arrangements
-
--- The number of a line: a row r is line r, a column c line 9 + c.
-unfoldable pub lineNumber : Line → ℕ
-lineNumber (across r) = r
-lineNumber (down c) = 9 + c
 
 -- The candidates of a grid: the cell at place x of the state has the value v.
 unfoldable pub candidatesOf : ℕ → List ℕ → ℕ → ℕ → Bool

@@ -12,3 +12,5 @@ pub mod Pigeonhole
 pub mod SettledLine
 mod Subsets
 pub mod Values
+pub mod CellValues
+pub mod LineNumbers

@@ -17,7 +17,8 @@ use Rattle.words.proofs.WordFacts.{subset-fits, from-sum-most}
 use Rattle.words.proofs.FillLaws.{top-is}
 use Rattle.words.proofs.PatternLaws.{part-lt}
 use Rattle.words.proofs.WordLaws.{known-shaped}
-use Rattle.arcs.specs.Arc.{blackAt, lives, live, support}
+use Rattle.arcs.specs.Arc.{lives, live, support}
+use Rattle.table.specs.Lines.{blackAt}
 use Rattle.slab.specs.Layout.{lengthPlace, perLine, livePlace, supportPlace}
 use Rattle.listing.specs.Numbers.{scan, onSide, startsFrom, ofSize, sideFrom, sideOf}
 use Rattle.listing.specs.Listing.{listOf, Raised, WordAsk, Added, AddAsk, Adding, StartsAsk}

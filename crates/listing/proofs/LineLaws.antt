@@ -16,7 +16,8 @@ use Rattle.rules.specs.Size.{Size}
 use Rattle.rules.specs.Check.{maxTarget}
 use Rattle.words.specs.Word.{arrangementOf, wordOf, part}
 use Rattle.fresh.specs.Fresh.{Fresh}
-use Rattle.arcs.specs.Arc.{blackAt, LineOf, lives, live, support}
+use Rattle.arcs.specs.Arc.{lives, live, support}
+use Rattle.table.specs.Lines.{blackAt, LineOf}
 use Rattle.slab.specs.Layout.{lengthsAt, lengthPlace, perLine, livePlace, supportPlace}
 use Rattle.listing.specs.Numbers.{sideOf, numbersFor}
 use Rattle.listing.proofs.NumberFacts.{target-most, numbers-few, numbers-are, numbers-known}

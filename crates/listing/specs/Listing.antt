@@ -13,7 +13,8 @@ use Rattle.rules.specs.Size.{Size}
 use Rattle.rules.specs.Check.{maxTarget}
 use Rattle.table.specs.Closed.{arrangements}
 use Rattle.words.specs.Word.{Known, arrangementOf, wordOf, maskIn, setOf, innerOf, part, Shaped, Words}
-use Rattle.arcs.specs.Arc.{blackAt, LineOf, lives, live, support}
+use Rattle.arcs.specs.Arc.{lives, live, support}
+use Rattle.table.specs.Lines.{blackAt, LineOf}
 use Rattle.fresh.specs.Fresh.{Fresh}
 use Rattle.slab.specs.Layout.{lengthsAt, lengthPlace, perLine, livePlace, supportPlace, slabSize}
 

@@ -18,13 +18,14 @@ use Rattle.slab.specs.Slab.{cand, tail, entry, waits, lag, candidatesLeft, Size
 use Rattle.slab.proofs.SlabLaws.{cand-same}
 use Rattle.slab.proofs.StruckLaws.{grown-sized, grown-trans}
 use Rattle.slab.specs.Ready.{Valid}
-use Rattle.table.specs.Value.{ValueOf}
+use Rattle.table.specs.Value.{ValueOf, HalfOf}
 use Rattle.fresh.proofs.FreshLaws.{fresh-lag, fresh-full, fresh-ready}
 use Rattle.words.specs.Word.{maskIn, Known, setOf, innerOf, wordOf, part}
 use Rattle.words.proofs.WordFacts.{mask-even}
 use Rattle.words.proofs.WordLaws.{known-subset, known-fields}
 use Rattle.words.proofs.PatternLaws.{part-digit, part-other}
-use Rattle.arcs.specs.Arc.{cellAt, blackAt, LineOf, HalfOf, lives, live, support, Tallied, Alive, Unsupported}
+use Rattle.arcs.specs.Arc.{lives, live, support, Tallied, Alive, Unsupported}
+use Rattle.table.specs.Lines.{cellAt, blackAt, LineOf}
 use Rattle.listing.specs.Listing.{Lists, targetAt, OpenAsk, LinesListed}
 use Rattle.listing.proofs.AddLaws.{black-in}
 use Rattle.listing.proofs.LineLaws.{lists-kept}

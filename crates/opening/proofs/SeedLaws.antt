@@ -18,7 +18,8 @@ use Rattle.bits.proofs.BitLaws.{bit-lt, bit-and, bit-or, bit-none, bit-pow-same
 use Rattle.slab.specs.Layout.{countersAt, supportPlace}
 use Rattle.slab.specs.Slab.{Struck, Masked}
 use Rattle.slab.proofs.StruckLaws.{struck-none, struck-both, struck-as}
-use Rattle.arcs.specs.Arc.{HalfOf, support}
+use Rattle.arcs.specs.Arc.{support}
+use Rattle.table.specs.Value.{HalfOf}
 use Rattle.opening.specs.Opening.{Lacks, Bare, in-row, in-column, BareCell, BareIn, BareTo}
 
 -- ---- the values without support at a place

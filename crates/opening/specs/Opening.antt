@@ -9,7 +9,9 @@ use Rattle.slab.specs.Layout.{lengthsAt, slabSize}
 use Rattle.slab.specs.Slab.{cand}
 use Rattle.slab.specs.Ready.{Moved}
 use Rattle.words.specs.Word.{arrangementOf}
-use Rattle.arcs.specs.Arc.{HalfOf, LineOf, lives, live, support, Arc, Unsupported}
+use Rattle.arcs.specs.Arc.{lives, live, support, Arc, Unsupported}
+use Rattle.table.specs.Value.{HalfOf}
+use Rattle.table.specs.Lines.{LineOf}
 use Rattle.listing.specs.Listing.{targetAt}
 
 -- The bits of m below k are those of the values without support at place y, and it has no others.

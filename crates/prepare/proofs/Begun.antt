@@ -25,8 +25,9 @@ use Rattle.prepare.proofs.Started.{started-halves, started-places, star
 use Rattle.listing.specs.Listing.{targetAt}
 use Rattle.opening.specs.Opening.{Opened}
 use Rattle.prepare.proofs.Held.{held-holding, held-fits}
-use Rattle.invariants.specs.State.{lineNumber, Kept, Occupied, Lagging}
-use Rattle.propagate.proofs.FlowLaws.{number-of}
+use Rattle.invariants.specs.State.{Kept, Occupied, Lagging}
+use Rattle.table.specs.Lines.{lineNumber}
+use Rattle.line_laws.proofs.LineNumbers.{number-of}
 
 target-at : (n : ℕ) (rows columns : List ℕ) (ℓ : Line) → n ≤ 9 → index ℓ < n → targetAt rows columns (lineNumber ℓ) ≡ target (puzzle n rows columns) ℓ
 unfolding targetAt lineNumber index target

@@ -1,58 +1,42 @@
 -- A state whose live lists are the arrangements of the targets, and that misses only what has no support, holds each grid of the puzzle. Assumes nothing.
-use Prim.Native.Nat.{ℕ, suc, _+_, _-_, _*_, _/_, _%_, _≤_, _<_}
+use Prim.Native.Nat.{ℕ, _+_, _*_, _/_, _%_, _<_}
 use mathlib.Core.Path.{_≡_, sym, ap, _∙_, subst}
-use mathlib.Core.Logic.{_⊎_, inl, inr}
 use mathlib.Core.Bool.{true}
-use mathlib.Core.List.{List, List·Memᴰ, Memᴰ·cast}
+use mathlib.Core.List.{List, List·Memᴰ}
 use native.Mathlib.Omega.{arith}
 use native.Mathlib.Decide.{ℕ-discrete}
 use lib.Dec.{eqb, ltb}
-use borrow.Author.Tests.{lt-ltb, le-ltb, ltb-true, eq-eqb}
+use borrow.Author.Tests.{ltb-true, eq-eqb}
 use Rattle.tally.specs.Tally.{any}
 use Rattle.tally.proofs.TallyLaws.{and-left, and-right, any-in}
 use Rattle.rules.specs.Size.{Size}
 use Rattle.rules.specs.Grid.{Puzzle, Line, index, line, target}
 use Rattle.rules.specs.Mark.{has}
 use Rattle.table.specs.Closed.{Arrangement, arrangements, Covers}
-use Rattle.table.specs.Table.{places, firstBlack, half, everyValue, own, fits}
-use Rattle.line_laws.proofs.Half.{digit-in, first-in, second-in}
+use Rattle.table.specs.Table.{places, half, everyValue, own, fits}
 use Rattle.line_laws.proofs.Parts.{LawfulLine}
 use Rattle.line_laws.proofs.Found.{Follows, Backed, backed}
 use Rattle.line_laws.proofs.Dead.{no-candidate, no-cell, dead-unfollowed}
 use Rattle.line_laws.proofs.GridLines.{place-in, line-lawful, line-meets, FitsLine}
 use Rattle.line_laws.specs.Grids.{GridOf}
-use Rattle.table.specs.Lines.{rowOf, columnOf}
-use Rattle.soundness.proofs.CellValues.{CellValue, digit-value, row-black, column-black, cell-value, half-every, valueAt, value-in, value-has, has-is, has-fits}
-use Rattle.table.specs.Value.{IsValue}
+use Rattle.table.specs.Lines.{rowOf, columnOf, lineAt, cellAt, blackAt, LineOf, lineNumber}
+use Rattle.soundness.proofs.GridValues.{valueAt, value-in, value-has, has-is, has-fits}
+use Rattle.line_laws.proofs.CellValues.{half-every, value-of, value-small, value-half}
+use Rattle.table.specs.Value.{IsValue, HalfOf}
 use Rattle.slab.specs.Slab.{cand, tableIn}
 use Rattle.slab.proofs.SlabLaws.{cand-lt}
 use Rattle.slab.specs.Ready.{Valid}
 use Rattle.words.specs.Word.{Known, arrangementOf, wordOf, pattern, part}
 use Rattle.words.proofs.PatternLaws.{part-yes}
 use Rattle.words.proofs.Arranged.{known-length, pattern-allows}
-use Rattle.arcs.specs.Arc.{lineAt, cellAt, blackAt, LineOf, HalfOf, lives, live, Tallied, DeadArrangement, emptied, unplaced, Held, Holding, Unsupported}
+use Rattle.arcs.specs.Arc.{lives, live, Tallied, DeadArrangement, emptied, unplaced, Held, Holding, Unsupported}
 use Rattle.arcs.proofs.KillLaws.{black-low}
 use Rattle.arcs.proofs.LineLaws.{line-places, sum-each}
-use Rattle.invariants.specs.State.{lineNumber, candidatesOf}
-use Rattle.invariants.proofs.StateLaws.{value-of, candidate-at, value-small}
+use Rattle.invariants.specs.State.{candidatesOf}
+use Rattle.invariants.proofs.StateLaws.{candidate-at}
+use Rattle.line_laws.proofs.LineNumbers.{Lined, lined}
 
 -- ---- lines by number
-
--- The line with number k is one of the grid, and its first black and its cells are those of k.
-record Lined (n k : ℕ) : Type 0 where
-  inside : index (lineAt k) < n
-  numbered : lineNumber (lineAt k) ≡ k
-  black : blackAt k ≡ firstBlack (lineAt k)
-  cells : (i : ℕ) → cellAt k i ≡ rowOf (lineAt k) i * 9 + columnOf (lineAt k) i
-
-lined : (n k : ℕ) → Size n → LineOf n k → Lined n k
-unfolding LineOf lineAt cellAt blackAt firstBlack rowOf columnOf index lineNumber
-lined n k z (inl h) =
-    let q = lt-ltb k 9 (omega (arith, z .high)) in
-    record { inside = rw q h; numbered = rw q; black = rw q; cells = λ i. rw q }
-lined n k z (inr h) =
-    let q = le-ltb k 9 (h .0) in
-    record { inside = rw q (omega (arith, h .0, h .1)); numbered = rw q (omega (arith, h .0)); black = rw q; cells = λ i. rw q }
 
 -- ---- the candidates of a grid
 
@@ -81,24 +65,6 @@ at-candidate n g r c v hc e =
     let b : (r * 9 + c) % 9 ≡ c = omega arith in
     let o = of-candidate n g (r * 9 + c) v e in
     (o .value, rw (a, b) at (o .there))
-
--- a value in the half of a line
-value-half : (n k v : ℕ) → IsValue n v → HalfOf k v → List·Memᴰ v (half n k)
-unfolding HalfOf
-value-half n k v m h = go (cell-value n v m)
-  where
-    black : 8 ≤ v → (v < 8) ⊎ ((k ≤ v) × (v < k + 2)) → List·Memᴰ v (half n k)
-    black l (inl a) = absurd (omega arith)
-    black l (inr a) = pick (ℕ-discrete v k)
-      where
-        pick : Dec (v ≡ k) → List·Memᴰ v (half n k)
-        pick (yes e) = Memᴰ·cast e (first-in n k)
-        pick (no e) = let s : v ≡ suc k = omega (arith, a .0, a .1) in Memᴰ·cast s (second-in n k)
-
-    go : CellValue n v → List·Memᴰ v (half n k)
-    go (digit-value q u) = digit-in n k q
-    go (row-black q l u) = black l h
-    go (column-black q l u) = black (omega arith) h
 
 -- ---- a known arrangement: its word has what it covers
 

@@ -2,20 +2,21 @@
 use Prim.Native.Nat.{ℕ, _+_, _*_, _≤_, _<_}
 use mathlib.Core.Path.{_≡_, sym, subst}
 use mathlib.Core.Bool.{true}
-use mathlib.Core.Logic.{inl, inr}
+use mathlib.Core.Logic.{inl}
 use mathlib.Core.List.{List, List·Memᴰ}
 use native.Mathlib.Omega.{arith}
 use borrow.Author.Tests.{eq-eqb}
 use Rattle.tally.proofs.TallyLaws.{test-ext}
-use Rattle.rules.specs.Grid.{Line, across, down, index, Puzzle, target}
+use Rattle.rules.specs.Grid.{Line, index, Puzzle, target}
 use Rattle.rules.specs.Mark.{has}
 use Rattle.table.specs.Closed.{arrangements}
 use Rattle.table.specs.Table.{Table, fits}
 use Rattle.table.specs.Steps.{taken}
 use Rattle.line_laws.proofs.GridLines.{place-in}
 use Rattle.line_laws.specs.Grids.{GridOf}
-use Rattle.table.specs.Lines.{rowOf, columnOf}
-use Rattle.soundness.proofs.CellValues.{half-every, has-fits}
+use Rattle.table.specs.Lines.{rowOf, columnOf, LineOf, lineNumber}
+use Rattle.soundness.proofs.GridValues.{has-fits}
+use Rattle.line_laws.proofs.CellValues.{half-every, value-small}
 use Rattle.table.specs.Value.{IsValue}
 use Rattle.soundness.proofs.SameLaws.{same-refl, same-trans, same-ext, within-fits, shrunk-same}
 use Rattle.soundness.specs.SameGrids.{SameGrids, Forced}
@@ -26,11 +27,12 @@ use Rattle.slab.specs.Layout.{lengthsAt}
 use Rattle.slab.specs.Slab.{cand, tableIn}
 use Rattle.slab.specs.Ready.{Moved}
 use Rattle.words.specs.Word.{arrangementOf}
-use Rattle.arcs.specs.Arc.{LineOf, Older, Pruned}
-use Rattle.invariants.specs.State.{lineNumber, candidatesOf, Kept}
-use Rattle.invariants.proofs.StateLaws.{candidate-at, value-small, within-sub, kept-moved}
+use Rattle.arcs.specs.Arc.{Older, Pruned}
+use Rattle.invariants.specs.State.{candidatesOf, Kept}
+use Rattle.invariants.proofs.StateLaws.{candidate-at, within-sub, kept-moved}
 use Rattle.singles.specs.Reasons.{TableIs, Reason, still, naked, hidden, crossed, Steps, done, step}
 use Rattle.propagate.specs.Flow.{Flows}
+use Rattle.line_laws.proofs.LineNumbers.{number-of}
 
 pub flows-refl : (n : ℕ) (l : List ℕ) → Flows n l l
 flows-refl n l = record { flow = λ p q k. (k, same-refl p (tableIn l)) }
@@ -71,11 +73,6 @@ steps-flow {n} {l = l} {l′ = l′} z low m s =
     }
 
 -- ---- the arrangements
-
-pub number-of : (n : ℕ) (ℓ : Line) → index ℓ < n → LineOf n (lineNumber ℓ)
-unfolding LineOf lineNumber index
-number-of n (across r) h = inl h
-number-of n (down c) h = inr (omega arith, omega arith)
 
 module _ (p : Puzzle) (z : p .size ≤ 9) {l l′ : List ℕ} (pr : Pruned (p .size) l l′) (k : Kept p l) where
   in-old : (g : List ℕ) → GridOf p g → fits (p .size) (tableIn l′) g ≡ true → fits (p .size) (tableIn l) g ≡ true

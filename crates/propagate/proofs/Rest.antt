@@ -24,9 +24,11 @@ use Rattle.counters.proofs.Closure.{AtRest, lone, single, crossed, crossedBack,
 use Rattle.arcs.specs.Arc.{lives, live}
 use Rattle.words.specs.Word.{arrangementOf}
 use Rattle.propagate.proofs.Supports.{Numbered, row-numbered, column-numbered, supported}
-use Rattle.invariants.specs.State.{lineNumber, Kept, Occupied, Counted, Lagging, Propagated}
-use Rattle.invariants.proofs.StateLaws.{value-every, Shrunk, arc-same, kept-same}
-use Rattle.propagate.proofs.FlowLaws.{number-of}
+use Rattle.invariants.specs.State.{Kept, Occupied, Counted, Lagging, Propagated}
+use Rattle.table.specs.Lines.{lineNumber}
+use Rattle.invariants.proofs.StateLaws.{Shrunk, arc-same, kept-same}
+use Rattle.line_laws.proofs.CellValues.{value-every}
+use Rattle.line_laws.proofs.LineNumbers.{number-of}
 use Rattle.propagate.proofs.Loop.{Propagating}
 
 -- the queue reset, as the code does it

@@ -1,8 +1,7 @@
 -- Where no strike waits, each candidate of a line lies in a live arrangement. Assumes nothing.
-use Prim.Native.Nat.{ℕ, zero, suc, _+_, _-_, _/_, _≤_, _<_}
+use Prim.Native.Nat.{ℕ, zero, suc, _+_, _-_, _/_, _<_}
 use mathlib.Core.Path.{_≡_, refl, sym, ap, _∙_, subst}
-use mathlib.Core.Logic.{_⊎_, inl, inr}
-use mathlib.Core.Bool.{true, false, true≢false}
+use mathlib.Core.Bool.{true, true≢false}
 use mathlib.Core.List.{List, List·Memᴰ}
 use native.Mathlib.Omega.{arith}
 use native.Mathlib.Decide.{ℕ-discrete, decLt}
@@ -13,7 +12,6 @@ use Rattle.rules.specs.Size.{Size}
 use Rattle.rules.specs.Grid.{Line, across, down}
 use Rattle.table.specs.Closed.{arrangements, place, allows, Live, Covers, Supported}
 use Rattle.table.specs.Table.{places, firstBlack, half}
-use Rattle.line_laws.proofs.Half.{HalfValue, a-digit, a-first, a-second, half-value}
 use Rattle.slab.specs.Slab.{cand, lag, tableIn}
 use Rattle.slab.proofs.SlabLaws.{cand-lt}
 use Rattle.words.specs.Word.{sizeIn, Known, arrangementOf, wordOf, fromOf, toOf, steps, pattern, part}
@@ -21,7 +19,10 @@ use Rattle.words.proofs.PatternLaws.{part-lt, part-yes, part-pattern, pattern-b
 use Rattle.words.proofs.WordLaws.{known-fits, known-steps, known-shaped}
 use Rattle.words.proofs.Arranged.{known-length, place-in, steps-place, pattern-allows, allows-some}
 use Rattle.arcs.proofs.KillLaws.{black-low, black-high}
-use Rattle.arcs.specs.Arc.{cellAt, blackAt, HalfOf, lives, live, Alive, Arc}
+use Rattle.arcs.specs.Arc.{lives, live, Alive, Arc}
+use Rattle.table.specs.Value.{HalfOf}
+use Rattle.table.specs.Lines.{cellAt, blackAt}
+use Rattle.line_laws.proofs.CellValues.{half-range}
 
 -- ---- lines by number
 
@@ -39,15 +40,6 @@ unfolding blackAt firstBlack places tableIn cellAt
 column-numbered c =
     let e : 9 + c - 9 ≡ c = omega arith in
     record { black = rw (le-ltb (9 + c) 9 (omega arith)); cells = λ l p v. rw (le-ltb (9 + c) 9 (omega arith), e) }
-
-half-range : (n k v : ℕ) → n ≤ 9 → k ≤ 10 → List·Memᴰ v (half n k) → (v < 16) × HalfOf k v
-unfolding HalfOf
-half-range n k v z h m = go (half-value n k v m)
-  where
-    go : HalfValue n k v → (v < 16) × ((v < 8) ⊎ ((k ≤ v) × (v < k + 2)))
-    go (a-digit q l u) = (omega arith, inl (omega arith))
-    go (a-first e) = (omega arith, inr (omega arith, omega arith))
-    go (a-second e) = (omega arith, inr (omega arith, omega arith))
 
 -- a sum that is not 0 has a term that is not 0
 sum-find : (n : ℕ) (f : ℕ → ℕ) → (sumOver 0 n f ≡ 0 → ⊥) → (j : ℕ) × (j < n) × (f j ≡ 0 → ⊥)

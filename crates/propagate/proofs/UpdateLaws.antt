@@ -11,7 +11,7 @@ use Rattle.slab.specs.Slab.{cand, tail, entry, waits, lag, Grown}
 use Rattle.slab.proofs.StruckLaws.{grown-trans}
 use Rattle.slab.proofs.ReadyLaws.{ready-grown, next-grown}
 use Rattle.slab.specs.Ready.{Next, Moved}
-use Rattle.set_cell.proofs.SetLaws.{value-range}
+use Rattle.line_laws.proofs.CellValues.{value-range}
 use Rattle.counters.proofs.Families.{halves-moved, places-moved, blacks-moved}
 use Rattle.singles.proofs.HandlingLaws.{handling-grown}
 use Rattle.singles.specs.Handling.{Handling, SingletonAsk, SingletonDone, HiddenAsk, HiddenDone, ConsistencyAsk, ConsistencyDone}

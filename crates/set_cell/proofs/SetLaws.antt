@@ -15,17 +15,13 @@ use Rattle.slab.proofs.SlabLaws.{cand-lt}
 use Rattle.slab.proofs.StruckLaws.{struck-none, struck-both, struck-as}
 use Rattle.slab.proofs.ReadyLaws.{ready-grown, ready-valid}
 use Rattle.slab.specs.Ready.{Valid}
-use Rattle.table.specs.Value.{ValueOf}
 use Rattle.set_cell.proofs.RunLaws.{row-run, run-row, column-run, run-column, row-inside, column-inside}
 use Rattle.set_cell.specs.Run.{Sides, SidesAsk}
 use Rattle.set_cell.specs.Setting.{SetHit, SetAsk, RowOthers, ColumnOthers, BlacksAround, RestOfHalf, Hits, in-row, in-column, in-cell, to-left, to-right, above, below}
 use Rattle.set_cell.proofs.SettingLaws.{hits-strikes, strikes-hits}
+use Rattle.line_laws.proofs.CellValues.{value-range}
 
 -- ---- values
-pub value-range : {n v : ℕ} → n ≤ 9 → ValueOf n v → (1 ≤ v) × (v < 12)
-unfolding ValueOf
-value-range h = ⊎-elim (λ q. omega (arith, q .0, q .1)) (λ q. omega (arith, q .0, q .1))
-
 -- ---- what the parts ask
 pub ask-grown : {n r c v : ℕ} {l l′ : List ℕ} → Grown l l′ → SetAsk n l r c v → SetAsk n l′ r c v
 ask-grown g a = record { ready = ready-grown g (a .ready); row = a .row; column = a .column; value = a .value }

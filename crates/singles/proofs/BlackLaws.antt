@@ -23,7 +23,8 @@ use Rattle.slab.proofs.StruckLaws.{grown-sized, grown-gone}
 use Rattle.slab.specs.Ready.{Ready}
 use Rattle.set_cell.proofs.MaskBits.{MaskIs, bitTest, mask-is}
 use Rattle.set_cell.proofs.SettingLaws.{and-two, or-left, or-right}
-use Rattle.set_cell.proofs.SetLaws.{value-range, yes-table, table-yes, table-no}
+use Rattle.set_cell.proofs.SetLaws.{yes-table, table-yes, table-no}
+use Rattle.line_laws.proofs.CellValues.{value-range}
 use Rattle.counters.specs.Counters.{Fell, NoBlacks, blacksBase, ownBlack, crossBlack, cellBlacks, BlacksOf}
 use Rattle.counters.proofs.CounterLaws.{fell-lower, fell-struck, fell-moved, moved-refl, ruled-pass, ruled-positive, ruled-most, ruled-done}
 use Rattle.counters.proofs.Families.{black-range, fine-blacks}

@@ -26,7 +26,7 @@ use Rattle.table.specs.Value.{ValueOf}
 use Rattle.set_cell.proofs.MaskBits.{bitTest, mask-is}
 use Rattle.set_cell.specs.Setting.{SetHit, SetAsk}
 use Rattle.set_cell.proofs.SettingLaws.{and-two}
-use Rattle.set_cell.proofs.SetLaws.{value-range}
+use Rattle.line_laws.proofs.CellValues.{value-range}
 use Rattle.counters.specs.Counters.{Fell, IsSet, AllSet, inLine, halfValue, halvesBase, halves, HalvesOf}
 use Rattle.counters.proofs.CounterLaws.{fell-lower, fell-struck, fell-moved, moved-refl, ruled-pass, ruled-positive, ruled-most, ruled-done}
 use Rattle.counters.proofs.Families.{value-narrow, value-in, HalfPlace, half-place, fine-halves}

@@ -9,7 +9,7 @@ use Rattle.rules.specs.Grid.{across, down, index}
 use Rattle.table.specs.Table.{inColumn, inRow}
 use Rattle.slab.specs.Layout.{placesAt, valuePlace, rowBlacksAt}
 use Rattle.slab.specs.Ready.{Next}
-use Rattle.set_cell.proofs.SetLaws.{value-range}
+use Rattle.line_laws.proofs.CellValues.{value-range}
 use Rattle.counters.specs.Counters.{PlacesOf}
 use Rattle.counters.proofs.CounterLaws.{moved-wide, moved-both}
 use Rattle.counters.proofs.Families.{place-moved}

@@ -18,7 +18,7 @@ use Rattle.slab.proofs.ReadyLaws.{ready-grown, ready-valid}
 use Rattle.slab.specs.Ready.{Ready}
 use Rattle.set_cell.specs.Run.{Inside}
 use Rattle.set_cell.specs.Setting.{SetHit, SetAsk}
-use Rattle.set_cell.proofs.SetLaws.{value-range}
+use Rattle.line_laws.proofs.CellValues.{value-range}
 use Rattle.counters.specs.Counters.{Fell, IsSet, AllSet, inLine, placesBase, linePlaces, PlacesOf}
 use Rattle.counters.proofs.CounterLaws.{fell-lower, fell-struck, fell-moved, moved-refl, ruled-pass, ruled-positive, ruled-most, ruled-done}
 use Rattle.counters.proofs.Families.{fine-places}

@@ -9,7 +9,7 @@ use Rattle.line_laws.proofs.Lists.{false-of}
 use Rattle.line_laws.proofs.Half.{first-in, second-in}
 use Rattle.line_laws.proofs.GridLines.{place-in, fits-at}
 use Rattle.table.specs.Lines.{rowOf, columnOf}
-use Rattle.soundness.proofs.CellValues.{valueAt, hasAt, value-in, value-has, value-onto, fits-place, has-black, black-has}
+use Rattle.soundness.proofs.GridValues.{valueAt, hasAt, value-in, value-has, value-onto, fits-place, has-black, black-has}
 use Rattle.table.specs.Value.{IsValue, InHalf}
 use Rattle.soundness.specs.SameGrids.{Unused, Forced}
 

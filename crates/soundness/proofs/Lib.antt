@@ -1,5 +1,5 @@
 -- What the proofs of several functions use.
-pub mod CellValues
+pub mod GridValues
 pub mod Deductions
 pub mod MarkLaws
 pub mod Measures

@@ -22,7 +22,7 @@ use Rattle.table.specs.Steps.{struck, taken, marked, markedAll}
 use Rattle.line_laws.proofs.Lists.{false-of}
 use Rattle.line_laws.proofs.Half.{digit-in, first-in, second-in}
 use Rattle.line_laws.specs.Grids.{GridOf}
-use Rattle.soundness.proofs.CellValues.{half-every}
+use Rattle.line_laws.proofs.CellValues.{half-every}
 use Rattle.table.specs.Value.{IsValue}
 use Rattle.soundness.proofs.SameLaws.{within-fits, count-grids}
 use Rattle.soundness.specs.SameGrids.{Within, SameGrids}

@@ -18,7 +18,7 @@ use Rattle.table.specs.Steps.{struck, taken}
 use Rattle.table.specs.Reading.{choices, openCells, total}
 use Rattle.line_laws.proofs.Pigeonhole.{sum-most}
 use Rattle.line_laws.proofs.Half.{half-once}
-use Rattle.soundness.proofs.CellValues.{half-every}
+use Rattle.line_laws.proofs.CellValues.{half-every}
 use Rattle.soundness.specs.SameGrids.{Within}
 use Rattle.soundness.proofs.Taken.{taken-gone, taken-within, strikes-here, row-value}
 

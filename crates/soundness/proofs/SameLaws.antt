@@ -10,7 +10,7 @@ use Rattle.rules.specs.Grid.{Puzzle, keeps}
 use Rattle.rules.specs.Number.{symbols, grids}
 use Rattle.table.specs.Table.{Table, fits, left}
 use Rattle.line_laws.specs.Grids.{GridOf}
-use Rattle.soundness.proofs.CellValues.{fits-has, has-fits}
+use Rattle.soundness.proofs.GridValues.{fits-has, has-fits}
 use Rattle.table.specs.Value.{IsValue}
 use Rattle.soundness.specs.SameGrids.{Within, SameGrids, Unused}
 

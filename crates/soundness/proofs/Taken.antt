@@ -21,7 +21,8 @@ use Rattle.line_laws.proofs.Half.{HalfValue, a-digit, a-first, a-second, half-v
 use Rattle.line_laws.proofs.GridLines.{place-in}
 use Rattle.line_laws.specs.Grids.{GridOf}
 use Rattle.table.specs.Lines.{rowOf, columnOf}
-use Rattle.soundness.proofs.CellValues.{valueAt, hasAt, CellValue, digit-value, row-black, column-black, cell-value, half-every, by-line, has-own, value-in, value-has, once-in-cell, once-in-line, has-black, second-behind, first-before, fits-has, has-fits}
+use Rattle.soundness.proofs.GridValues.{valueAt, hasAt, by-line, has-own, value-in, value-has, once-in-cell, once-in-line, has-black, second-behind, first-before, fits-has, has-fits}
+use Rattle.line_laws.proofs.CellValues.{CellValue, digit-value, row-black, column-black, cell-value, half-every}
 use Rattle.table.specs.Value.{IsValue, InHalf}
 use Rattle.soundness.proofs.SameLaws.{within-fits, count-grids}
 use Rattle.soundness.specs.SameGrids.{Within, SameGrids, Forced}

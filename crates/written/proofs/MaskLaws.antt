@@ -1,9 +1,9 @@
 -- The masks that are written stand for the table. Assumes nothing.
-use Prim.Native.Nat.{ℕ, suc, _+_, _-_, _*_, _/_, _%_, _^_, _≤_, _<_}
+use Prim.Native.Nat.{ℕ, _+_, _-_, _*_, _/_, _%_, _^_, _≤_, _<_}
 use mathlib.Core.Path.{_≡_, sym, ap, _∙_}
 use mathlib.Core.Bool.{true}
-use mathlib.Core.Logic.{inl, inr, ⊎-elim}
-use mathlib.Core.List.{List, [], _∷_, _++_, List·Memᴰ, List·Memᴰ·head, List·Memᴰ·tail, List·Memᴰ·append-cases, List·Memᴰ·not-nil}
+use mathlib.Core.Logic.{inl, inr}
+use mathlib.Core.List.{List, List·Memᴰ}
 use native.Mathlib.Omega.{arith}
 use native.Mathlib.Decide.{decLt}
 use native.Mathlib.Nat.{mul-le-mul, mod-eq-of-lt, mod-lt, add-comm}
@@ -12,15 +12,15 @@ use lib.Dec.{eqb}
 use lib.ListN.{getD}
 use lib.Pow.{pow-pos, pow-mono, shr-shr, shr-lt, split, high, low, field, mod-mod-pow}
 use borrow.Author.Tests.{lt-ltb, le-ltb, eqb-true}
-use Rattle.tally.specs.Tally.{span}
-use Rattle.tally.proofs.TallyLaws.{span-in, map-at}
-use Rattle.rules.specs.Grid.{digits, cell}
+use Rattle.tally.proofs.TallyLaws.{map-at}
+use Rattle.rules.specs.Grid.{cell}
 use Rattle.rules.proofs.GridLaws.{place-lt}
 use Rattle.rules.specs.Size.{Size}
 use Rattle.value.proofs.MaskLaws.{digits-small}
-use Rattle.table.specs.Table.{half, everyValue, bitOf, hasBit, tableOf}
+use Rattle.table.specs.Table.{everyValue, bitOf, hasBit, tableOf}
 use Rattle.bits.specs.Bit.{bit}
 use Rattle.bits.proofs.BitLaws.{bit-le, bits-none}
+use Rattle.line_laws.proofs.CellValues.{value-of}
 use Rattle.slab.specs.Slab.{tableIn}
 use Rattle.slab.proofs.SlabLaws.{cand-in}
 use Rattle.slab.proofs.ReadyLaws.{ready-valid, ready-unused}
@@ -98,22 +98,6 @@ module _ (n : ℕ) (s : Size n) (m : ℕ) (small : m % 256 < 2 ^ (n - 1)) where
 
 -- ---- the table
 
--- a value of the list is a digit of the size or a black
-every-value : (n v : ℕ) → Size n → List·Memᴰ v (everyValue n) → ValueOf n v
-unfolding everyValue half digits ValueOf
-every-value n v s m =
-    ⊎-elim
-    (λ a.
-    ⊎-elim (λ d. let i = span-in 1 (n - 2) v d in inl (omega (arith, i, s .low))) (λ b. inr (omega (arith, two 8 b)))
-    (List·Memᴰ·append-cases (span 1 (n - 2)) a))
-    (λ b. inr (omega (arith, two 10 b)))
-    (List·Memᴰ·append-cases (span 1 (n - 2) ++ 8 ∷ 9 ∷ []) m)
-  where
-    two : {v : ℕ} (k : ℕ) → List·Memᴰ v (k ∷ suc k ∷ []) → (k ≤ v) × (v < k + 2)
-    two k (List·Memᴰ·head e) = omega arith
-    two k (List·Memᴰ·tail (List·Memᴰ·head e)) = omega arith
-    two k (List·Memᴰ·tail (List·Memᴰ·tail m)) = absurd (List·Memᴰ·not-nil m)
-
 module _ {n : ℕ} {l : List ℕ} (s : Ready n l) (r c : ℕ) (row : r < n) (column : c < n) where
   place : r * 9 + c < 81
   place = omega (arith, s .size .high)
@@ -136,7 +120,7 @@ module _ {n : ℕ} {l : List ℕ} (s : Ready n l) (r c : ℕ) (row : r < n) (col
   published-table v m =
       ap (λ k. eqb k 1) (
       ap (bit (bitOf n v)) written-mask
-      ∙ value-bit n (s .size) (getD l (r * 9 + c) 0) digits-below v (every-value n v (s .size) m)
+      ∙ value-bit n (s .size) (getD l (r * 9 + c) 0) digits-below v (value-of n v m)
       ∙ sym (cand-in l (r * 9 + c) v place))
 
   -- Each bit that is written is that of a value.

@@ -1,9 +1,9 @@
 -- The values that the cells of a grid have: one in each half, each once in a line, and the blacks in order. Assumes nothing.
-use Prim.Native.Nat.{ℕ, suc, _+_, _-_, _≤_, _<_}
+use Prim.Native.Nat.{ℕ, suc, _+_, _≤_, _<_}
 use mathlib.Core.Path.{_≡_, refl, sym, ap, _∙_, subst}
 use mathlib.Core.Bool.{Bool, true}
-use mathlib.Core.Logic.{_⊎_, inl, inr, ⊎-elim}
-use mathlib.Core.List.{List, [], _∷_, List·Memᴰ, List·Memᴰ·head, List·Memᴰ·tail, List·Memᴰ·append-cases, List·Memᴰ·cases-cons, List·Memᴰ·eq-of-singleton, Memᴰ·append-left, Memᴰ·append-right, Memᴰ·cast}
+use mathlib.Core.Logic.{_⊎_, inl, inr}
+use mathlib.Core.List.{List}
 use native.Mathlib.Omega.{arith}
 use native.Mathlib.Decide.{ℕ-discrete}
 use lib.Dec.{eqb}
@@ -11,10 +11,10 @@ use lib.ListN.{getD, take}
 use borrow.Author.Tests.{eqb-true, eq-eqb, ne-eqb}
 use Rattle.tally.specs.Tally.{count}
 use Rattle.tally.proofs.TallyLaws.{and-left, and-right, and-both, test-ext}
-use Rattle.rules.specs.Grid.{isBlack, digits, Puzzle, Line, across, down, index, line, cell}
-use Rattle.rules.specs.Mark.{blackWith, has, leftBlack, upperBlack}
-use Rattle.table.specs.Table.{Table, places, firstBlack, half, everyValue, own, fits}
-use Rattle.line_laws.proofs.Half.{first-high, Symbol, is-black, is-digit, HalfValue, a-digit, a-first, a-second, half-value, digit-in, first-in, second-in}
+use Rattle.rules.specs.Grid.{isBlack, Puzzle, Line, across, down, index, line, cell}
+use Rattle.rules.specs.Mark.{blackWith, has}
+use Rattle.table.specs.Table.{Table, places, firstBlack, own, fits}
+use Rattle.line_laws.proofs.Half.{first-high, Symbol, is-black, is-digit, HalfValue, a-digit, a-first, a-second, half-value, digit-in}
 use Rattle.line_laws.proofs.Own.{black-before, black-between}
 use Rattle.line_laws.proofs.Parts.{LawfulLine, two-blacks}
 use Rattle.line_laws.proofs.Values.{cell-symbol, own-half, own-inj, own-onto}
@@ -22,42 +22,9 @@ use Rattle.line_laws.proofs.GridLines.{place-in, line-cell, places-cell, line-l
 use Rattle.line_laws.specs.Grids.{GridOf}
 use Rattle.table.specs.Lines.{rowOf, columnOf}
 use Rattle.table.specs.Value.{IsValue, InHalf}
+use Rattle.line_laws.proofs.CellValues.{CellValue, digit-value, row-black, column-black, cell-value, half-every}
 
 -- ---- the values of a cell
-
--- By its kind: a digit, a black of the cell's row or a black of its column.
-pub data CellValue (n v : ℕ) : Type 0 where
-  digit-value : List·Memᴰ v (digits n) → v < n - 1 → CellValue n v
-  row-black : List·Memᴰ v (half n leftBlack) → 8 ≤ v → v < 10 → CellValue n v
-  column-black : List·Memᴰ v (half n upperBlack) → 10 ≤ v → v < 12 → CellValue n v
-
-pub cell-value : (n v : ℕ) → IsValue n v → CellValue n v
-unfolding everyValue
-cell-value n v m =
-    ⊎-elim (λ q. low q (half-value n 8 v q)) (λ q. ⊎-elim upper (λ z. lower (List·Memᴰ·eq-of-singleton z)) (List·Memᴰ·cases-cons q))
-    (List·Memᴰ·append-cases (half n 8) m)
-  where
-    low : List·Memᴰ v (half n 8) → HalfValue n 8 v → CellValue n v
-    low q (a-digit m l u) = digit-value m u
-    low q (a-first e) = row-black q (omega arith) (omega arith)
-    low q (a-second e) = row-black q (omega arith) (omega arith)
-
-    upper : v ≡ 10 → CellValue n v
-    upper e = column-black (Memᴰ·cast e (first-in n 10)) (omega arith) (omega arith)
-
-    lower : v ≡ 11 → CellValue n v
-    lower e = column-black (Memᴰ·cast e (second-in n 10)) (omega arith) (omega arith)
-
--- A value of a line's half is one of the cell's.
-pub half-every : (n : ℕ) (ℓ : Line) (v : ℕ) → InHalf n ℓ v → IsValue n v
-unfolding firstBlack everyValue
-half-every n (across r) v m = Memᴰ·append-left (10 ∷ 11 ∷ []) m
-half-every n (down c) v m = go (half-value n 10 v m)
-  where
-    go : HalfValue n 10 v → IsValue n v
-    go (a-digit q l u) = Memᴰ·append-left (10 ∷ 11 ∷ []) (digit-in n 8 q)
-    go (a-first e) = Memᴰ·append-right (half n 8) (List·Memᴰ·head e)
-    go (a-second e) = Memᴰ·append-right (half n 8) (List·Memᴰ·tail (List·Memᴰ·head e))
 
 -- A value of a cell belongs to the half of a line through it.
 pub by-line : (n v : ℕ) (Q : ℕ → ℕ → Type 0) → ((ℓ : Line) → index ℓ < n → (i : ℕ) → i < n → InHalf n ℓ v → Q (rowOf ℓ i) (columnOf ℓ i)) →
