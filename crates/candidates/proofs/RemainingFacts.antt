@@ -11,8 +11,9 @@ use Rattle.tally.proofs.TallyLaws.{and-left, and-right, any-in}
 use Rattle.tally.proofs.WayLaws.{all-each, all-ways, way-map}
 use Rattle.rules.specs.Grid.{digits, lawful, untilBlack, inside, lineSum, meets, keepsLine, cell, row, column, line, lines, Puzzle, target, keeps, across}
 use Rattle.rules.proofs.GridLaws.{solution-way, way-solution}
-use Rattle.rules.specs.Mark.{rejects, markRow, markColumn, markValue, leftBlack, blackWith, has, keepsMark, keepsMarks}
-use Rattle.rules.specs.Number.{symbols, grids, solves}
+use Rattle.rules.specs.Mark.{rejects, markRow, markColumn, markValue, leftBlack, blackWith, has, keepsMark}
+use Rattle.rules.specs.Short.{keepsMarks, symbols}
+use Rattle.rules.specs.Number.{grids, solves}
 use Rattle.rules.proofs.Samples.{three}
 use Rattle.line_laws.proofs.CellValues.{half-every}
 use Rattle.soundness.proofs.Taken.{same-half}
@@ -90,7 +91,7 @@ pub facts : RemainingFacts
 unfolding
     span sum all any count inFront ways
     digits lawful untilBlack inside lineSum meets keepsLine cell row column line lines target keeps
-    rejects blackWith has keepsMark keepsMarks symbols grids solves three
+    rejects blackWith has keepsMark grids solves three
     places firstBlack half everyValue own fits bitOf hasBit tableOf
     gridsTest filledTest aloneTest markTest
 facts =

@@ -11,7 +11,7 @@ use borrow.Author.Tests.{eq-eqb, ne-eqb}
 use Rattle.tally.specs.Tally.{oneIf, count, span}
 use Rattle.tally.proofs.TallyLaws.{count-append, bit-eq, bit-ne, Once, span-in, span-once, span-past, span-length}
 use Rattle.rules.specs.Grid.{black, isBlack, digits, Line, across, down}
-use Rattle.rules.specs.Number.{symbols}
+use Rattle.rules.specs.Short.{symbols}
 use Rattle.table.specs.Table.{half, firstBlack}
 
 pub digit-range : (n d : ℕ) → List·Memᴰ d (digits n) → (1 ≤ d) × (d < n - 1)
@@ -30,7 +30,6 @@ pub data Symbol (n c : ℕ) : Type 0 where
   is-digit : isBlack c ≡ false → List·Memᴰ c (digits n) → c < n - 1 → Symbol n c
 
 pub symbol : (n c : ℕ) → n ≤ 9 → List·Memᴰ c (symbols n) → Symbol n c
-unfolding symbols
 symbol n c z (List·Memᴰ·head e) = is-black (eq-eqb c 255 e) e
 symbol n c z (List·Memᴰ·tail m) = let r = digit-range n c m in is-digit (ne-eqb c 255 (omega arith)) m (r .1)
 

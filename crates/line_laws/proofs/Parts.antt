@@ -14,7 +14,7 @@ use Rattle.tally.specs.Way.{Way}
 use Rattle.tally.proofs.TallyLaws.{and-left, and-right, count-append, sum-append}
 use Rattle.tally.proofs.WayLaws.{all-each, way-length}
 use Rattle.rules.specs.Grid.{black, isBlack, digits, lawful, untilBlack, inside, lineSum}
-use Rattle.rules.specs.Number.{symbols}
+use Rattle.rules.specs.Short.{symbols}
 use Rattle.table.specs.Table.{own}
 use Rattle.line_laws.proofs.Lists.{bit-zero, count-pos, way-mem}
 use Rattle.line_laws.proofs.Pigeonhole.{sum-each}

@@ -13,7 +13,7 @@ use Rattle.tally.specs.Way.{Way}
 use Rattle.tally.proofs.TallyLaws.{and-both, count-map, bit-eq, bit-ne, span-in, span-length, map-at}
 use Rattle.tally.proofs.WayLaws.{way-map}
 use Rattle.rules.specs.Grid.{black, isBlack, digits, lawful, keepsLine}
-use Rattle.rules.specs.Number.{symbols}
+use Rattle.rules.specs.Short.{symbols}
 use Rattle.table.specs.Closed.{Arrangement, place, allows, Supported, ClosedLine}
 use Rattle.table.specs.Table.{half, own}
 use Rattle.table.specs.Lines.{Places}
@@ -80,7 +80,6 @@ module _ (n k : ℕ) (small : n ≤ 9) (two : 2 ≤ n) (high : 8 ≤ k) (v : ℕ
   black-test b (a-second e) = rw (cell-black b (omega arith)) (omega (arith, bit-ne k b (omega arith), bit-eq (suc k) b (sym e)))
 
   cell-in : (b : ℕ) → HalfValue n k b → List·Memᴰ (symbolOf b) (symbols n)
-  unfolding symbols
   cell-in b (a-digit m _ g) = rw (cell-digit b (omega arith)) (List·Memᴰ·tail m)
   cell-in b (a-first e) = List·Memᴰ·head (cell-black b (omega arith))
   cell-in b (a-second e) = List·Memᴰ·head (cell-black b (omega arith))

@@ -5,7 +5,7 @@ use mathlib.Core.Bool.{true}
 use mathlib.Core.List.{List}
 use Rattle.tally.specs.Way.{Way}
 use Rattle.rules.specs.Grid.{Puzzle, keeps}
-use Rattle.rules.specs.Number.{symbols}
+use Rattle.rules.specs.Short.{symbols}
 
 -- A grid of black and digits that keeps the puzzle.
 pub record GridOf (p : Puzzle) (g : List ℕ) : Type 0 where

@@ -7,7 +7,8 @@ use Rattle.tally.specs.Tally.{all}
 use Rattle.tally.proofs.TallyLaws.{and-right, and-map, all-less, all-perm, count-split, count-le, count-ext, count-never, test-ext}
 use Rattle.tally.proofs.WayLaws.{all-each}
 use Rattle.rules.specs.Grid.{Puzzle, keeps}
-use Rattle.rules.specs.Mark.{keepsMark, keepsMarks}
+use Rattle.rules.specs.Mark.{keepsMark}
+use Rattle.rules.specs.Short.{keepsMarks}
 use Rattle.rules.specs.Number.{grids, solves, number}
 use Rattle.number.specs.MarkLaws.{opposite, keeps-opposite}
 
@@ -23,17 +24,15 @@ number-same p ms ns h = count-ext (λ g. ap (λ b. keeps p g && b) (h g)) (grids
 
 -- ORDER: the same marks in any order give the same number
 pub number-order : (p : Puzzle) {ms ns : List ℕ} → List·Permᴰ ms ns → number p ms ≡ number p ns
-unfolding keepsMarks
 number-order p {ms} {ns} d = number-same p ms ns (λ g. all-perm (keepsMark (p .size) g) d)
 
 -- ONE MARK MORE, anywhere, never raises the number
 pub number-more : (p : Puzzle) (ms : List ℕ) (m : ℕ) (ns : List ℕ) → number p (ms ++ m ∷ ns) ≤ number p (ms ++ ns)
-unfolding keepsMarks
 number-more p ms m ns = number-stronger p (ms ++ m ∷ ns) (ms ++ ns) (λ g. all-less (keepsMark (p .size) g) ms m ns)
 
 -- REPEATS: a mark that is in the list already changes nothing
 pub number-repeat : (p : Puzzle) {m : ℕ} {ms : List ℕ} → List·Memᴰ m ms → number p (m ∷ ms) ≡ number p ms
-unfolding keepsMarks all
+unfolding all
 number-repeat p {m} {ms} k =
     number-same p (m ∷ ms) ms (λ g. test-ext (keepsMark (p .size) g m && all (keepsMark (p .size) g) ms) (all (keepsMark (p .size) g) ms)
     (and-right (keepsMark (p .size) g m) _) (λ t. rw (all-each (keepsMark (p .size) g) k t, t)))
@@ -43,7 +42,7 @@ both-kinds b t u = let z : not true ≡ true = rw t at u in true≢false (sym z)
 
 -- OPPOSITES: a mark and its opposite in one list leave nothing
 pub number-opposite : (p : Puzzle) {m : ℕ} {ms : List ℕ} → m < 65536 → List·Memᴰ m ms → List·Memᴰ (opposite m) ms → number p ms ≡ 0
-unfolding number solves keepsMarks
+unfolding number solves
 number-opposite p {m} {ms} h k j =
     count-ext
     (λ g. test-ext (keeps p g && all (keepsMark (p .size) g) ms) false
@@ -62,7 +61,7 @@ and-rotate false b c = refl
 
 -- SPLITTING: each grid keeps a mark or its opposite, and not both
 pub number-split : (p : Puzzle) (m : ℕ) (ms : List ℕ) → m < 65536 → number p ms ≡ number p (m ∷ ms) + number p (opposite m ∷ ms)
-unfolding number solves keepsMarks all
+unfolding number solves all
 number-split p m ms h =
     count-split (λ g. keeps p g && all (keepsMark (p .size) g) ms) (λ g. keepsMark (p .size) g m) (grids (p .size))
     ∙ ap₂ _+_ (count-ext (λ g. sym (and-rotate (keeps p g) (keepsMark (p .size) g m) (all (keepsMark (p .size) g) ms))) (grids (p .size)))

@@ -8,11 +8,12 @@ use Rattle.tally.proofs.TallyLaws.{Once, count-none, count-one, span-in, span-p
 use Rattle.tally.proofs.WayLaws.{count-find, count-some, count-two, count-another}
 use Rattle.rules.proofs.GridLaws.{solution-way, way-solution}
 use Rattle.rules.specs.Grid.{black, digits, Puzzle}
-use Rattle.rules.specs.Number.{symbols, grids, solves, number, unsolvable, unique, multiple, verdictOf, Solution}
+use Rattle.rules.specs.Number.{grids, solves, number, unsolvable, unique, multiple, verdictOf, Solution}
+use Rattle.rules.specs.Short.{symbols}
 
 -- black and the digits are different values
 pub symbols-once : (n : ℕ) → n ≤ 9 → Once (symbols n)
-unfolding Once symbols digits count
+unfolding Once digits count
 symbols-once n h c (List·Memᴰ·head e) = rw e (omega (arith, span-past 1 (n - 2) 255 (omega arith)))
 symbols-once n h c (List·Memᴰ·tail m) =
     let r = span-in 1 (n - 2) c m in omega (arith, bit-ne c black (omega arith), span-once 1 (n - 2) c (r .0) (r .1))

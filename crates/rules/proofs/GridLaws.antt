@@ -10,7 +10,8 @@ use Rattle.tally.specs.Way.{Way}
 use Rattle.tally.proofs.TallyLaws.{all-append, span-in, span-mem, span-length}
 use Rattle.tally.proofs.WayLaws.{all-each, all-of-map, way-cell, way-map, way-in, in-way}
 use Rattle.rules.specs.Grid.{keepsLine, Line, across, down, index, line, lines, row, column, cell, Puzzle, target, keeps}
-use Rattle.rules.specs.Number.{symbols, grids, solves, Solution}
+use Rattle.rules.specs.Number.{grids, solves, Solution}
+use Rattle.rules.specs.Short.{symbols}
 
 -- a cell's place in the list of cells
 pub place-lt : (n r c : ℕ) → r < n → c < n → r * n + c < n * n

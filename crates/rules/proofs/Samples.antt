@@ -6,8 +6,9 @@ use mathlib.Core.List.{List, [], _∷_, map}
 use lib.Dec.{eqb}
 use Rattle.tally.specs.Tally.{span, sum, all, count, inFront, ways, keep, join}
 use Rattle.rules.specs.Grid.{digits, lawful, untilBlack, inside, lineSum, meets, keepsLine, cell, row, column, line, lines, lawfulGrid, Puzzle, target, keeps}
-use Rattle.rules.specs.Mark.{rejects, markRow, markColumn, markValue, markSpare, blackWith, has, keepsMark, keepsMarks, marksOf}
-use Rattle.rules.specs.Number.{symbols, grids, solves, number, capped}
+use Rattle.rules.specs.Mark.{rejects, markRow, markColumn, markValue, markSpare, blackWith, has, keepsMark, marksOf}
+use Rattle.rules.specs.Short.{keepsMarks, symbols}
+use Rattle.rules.specs.Number.{grids, solves, number, capped}
 use Rattle.rules.specs.Check.{refusal, maxTarget, named, checkLine, countChecks, solveChecks, sheetChecks, sumsChecks}
 use Rattle.rules.specs.Sums.{targetSums, sheetRight}
 use Rattle.rules.proofs.SizeFour.{threes, threes-none}
@@ -142,8 +143,8 @@ unfolding
     span sum all count inFront ways keep join
     digits lawful untilBlack inside lineSum meets keepsLine
     cell row column line lines lawfulGrid target keeps
-    rejects blackWith has keepsMark keepsMarks marksOf
-    symbols grids solves number capped
+    rejects blackWith has keepsMark marksOf
+    grids solves number capped
     refusal maxTarget named countChecks solveChecks sheetChecks sumsChecks
     targetSums sheetRight
     right two three sample samples

@@ -12,8 +12,8 @@ use Rattle.tally.specs.Way.{Way}
 use Rattle.tally.proofs.TallyLaws.{and-left, count-none}
 use Rattle.tally.proofs.WayLaws.{all-ways}
 use Rattle.rules.specs.Grid.{isBlack, digits, lawful, untilBlack, inside, lineSum, meets, keepsLine, Puzzle, across, down, index, target, cell, row, column, line, keeps}
-use Rattle.rules.specs.Mark.{keepsMarks}
-use Rattle.rules.specs.Number.{symbols, grids, solves, number}
+use Rattle.rules.specs.Short.{keepsMarks, symbols}
+use Rattle.rules.specs.Number.{grids, solves, number}
 use Rattle.rules.proofs.GridLaws.{line-keeps, line-way}
 
 -- four rows of 3, and any columns
@@ -25,7 +25,7 @@ begins : List ℕ → Bool
 begins l = not (keepsLine 4 3 l) || isBlack (getD l 0 0)
 
 all-begin : all begins (ways (symbols 4) 4) ≡ true
-unfolding begins all ways inFront symbols digits span keepsLine lawful meets lineSum inside untilBlack count sum
+unfolding begins all ways inFront digits span keepsLine lawful meets lineSum inside untilBlack count sum
 all-begin = refl
 
 or-right : {a b : Bool} → a ≡ true → (not a || b) ≡ true → b ≡ true

@@ -9,7 +9,8 @@ use lib.ListN.{getD}
 use Rattle.tally.specs.Tally.{span, all, join}
 use Rattle.rules.specs.Grid.{Line, across, down, line, lines, cell, row, column}
 use Rattle.rules.proofs.GridLaws.{all-lines}
-use Rattle.rules.specs.Check.{checkLine, checkLines}
+use Rattle.rules.specs.Check.{checkLine}
+use Rattle.rules.specs.Short.{checkLines}
 use Rattle.rules.proofs.CheckLaws.{join-append}
 use Rattle.rules.specs.Strided.{strided, each}
 

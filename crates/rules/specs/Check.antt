@@ -51,10 +51,6 @@ abbrev pub checkLine : List ℕ → List Check
 checkLine l =
     check 8 (eqb (count isBlack l) 2) ∷ check 9 (all (λ c. not (eqb c 0)) (inside l)) ∷ check 10 (leb (lineSum l) 255) ∷ []
 
--- 8, 9, 10 for each line, the rows first.
-abbrev pub checkLines : ℕ → List ℕ → List Check
-checkLines n g = join (map (λ ℓ. checkLine (line n g ℓ)) (lines n))
-
 -- ---- the checks of each call, in its order
 
 -- The puzzle: 1, 2, and 3: each target is at most the greatest.
@@ -77,7 +73,7 @@ solveChecks p ms len = countChecks p ms ++ checkBuffer (p .size) len ∷ []
 unfoldable pub sheetChecks : Puzzle → List ℕ → List Check
 sheetChecks p cells = puzzleChecks p ++ checkBuffer (p .size) (length cells) ∷ []
 
--- Target sums: 1, 7, 2, then 8, 9, 10 line by line. Of the target slices only the lengths count.
+-- Target sums: 1, 7, 2, then 8, 9, 10 line by line, the rows first. Of the target slices only the lengths count.
 unfoldable pub sumsChecks : ℕ → List ℕ → ℕ → ℕ → List Check
 sumsChecks n cells rows columns =
-    (checkSize n ∷ checkBuffer n (length cells) ∷ checkLengths n rows columns ∷ []) ++ checkLines n cells
+    (checkSize n ∷ checkBuffer n (length cells) ∷ checkLengths n rows columns ∷ []) ++ join (map (λ ℓ. checkLine (line n cells ℓ)) (lines n))

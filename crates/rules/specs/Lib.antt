@@ -3,6 +3,7 @@ pub mod Mark
 pub mod Number
 pub mod Check
 pub mod CheckParts
+pub mod Short
 pub mod Sums
 pub mod Strided
 pub mod Size

@@ -4,7 +4,7 @@ use mathlib.Core.Bool.{Bool, not, _&&_, cond}
 use mathlib.Core.List.{List, [], _∷_}
 use lib.Dec.{eqb}
 use lib.ListN.{getD, take}
-use Rattle.tally.specs.Tally.{all, count}
+use Rattle.tally.specs.Tally.{count}
 use Rattle.rules.specs.Grid.{isBlack, cell, row, column}
 
 -- ---- the fields of a mark, from the most significant bit on: kind 1, row 4, column 4, value 4, spare 3
@@ -58,10 +58,6 @@ has n g r c v =
 unfoldable pub keepsMark : ℕ → List ℕ → ℕ → Bool
 keepsMark n g m =
     cond (rejects m) (not (has n g (markRow m) (markColumn m) (markValue m))) (has n g (markRow m) (markColumn m) (markValue m))
-
--- A grid keeps every mark of a list.
-unfoldable pub keepsMarks : ℕ → List ℕ → List ℕ → Bool
-keepsMarks n ms g = all (keepsMark n g) ms
 
 -- ---- a list of marks in bytes
 

@@ -2,22 +2,18 @@
 use Prim.Native.Nat.{ℕ, zero, suc, _*_, min}
 use mathlib.Core.Bool.{Bool, _&&_, true}
 use mathlib.Core.List.{List, _∷_, List·Memᴰ}
-use Rattle.tally.specs.Tally.{count, ways}
+use Rattle.tally.specs.Tally.{all, count, ways}
 use Rattle.rules.specs.Grid.{black, digits, Puzzle, keeps}
-use Rattle.rules.specs.Mark.{keepsMarks}
+use Rattle.rules.specs.Mark.{keepsMark}
 use mathlib.Core.Path.{_≡_}
-
--- What a cell of size n may hold: black, or a digit.
-unfoldable pub symbols : ℕ → List ℕ
-symbols n = black ∷ digits n
 
 -- All ways to put a black or a digit into each of the n * n cells.
 unfoldable pub grids : ℕ → List (List ℕ)
-grids n = ways (symbols n) (n * n)
+grids n = ways (black ∷ digits n) (n * n)
 
 -- A grid keeps the puzzle and every mark.
 unfoldable pub solves : Puzzle → List ℕ → List ℕ → Bool
-solves p ms g = keeps p g && keepsMarks (p .size) ms g
+solves p ms g = keeps p g && all (keepsMark (p .size) g) ms
 
 -- A solution: one of these ways that keeps the puzzle and every mark.
 pub record Solution (p : Puzzle) (ms g : List ℕ) : Type 0 where

@@ -2,9 +2,9 @@
 use Prim.Native.Nat.{ℕ, zero, suc}
 use mathlib.Core.List.{List, map}
 use lib.ListN.{length}
-use Rattle.tally.specs.Tally.{span, all}
+use Rattle.tally.specs.Tally.{span, all, join}
 use Rattle.rules.specs.Grid.{lineSum, meets, row, column, Puzzle, target, line, lines}
-use Rattle.rules.specs.Check.{refusal, sumsChecks, checkLines}
+use Rattle.rules.specs.Check.{refusal, checkLine, sumsChecks}
 use mathlib.Core.Bool.{Bool, _&&_}
 use lib.Dec.{eqb}
 
@@ -21,4 +21,4 @@ targetSums n cells rows columns = summedAs (refusal (sumsChecks n cells (length 
 -- A sheet is right: its target sums are computed, and each meets its target.
 unfoldable pub sheetRight : Puzzle → List ℕ → Bool
 sheetRight p g =
-    eqb (refusal (checkLines (p .size) g)) 0 && all (λ ℓ. meets (target p ℓ) (lineSum (line (p .size) g ℓ))) (lines (p .size))
+    eqb (refusal (join (map (λ ℓ. checkLine (line (p .size) g ℓ)) (lines (p .size))))) 0 && all (λ ℓ. meets (target p ℓ) (lineSum (line (p .size) g ℓ))) (lines (p .size))

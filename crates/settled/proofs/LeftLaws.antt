@@ -5,7 +5,8 @@ use mathlib.Core.Bool.{true, _&&_}
 use mathlib.Core.List.{List}
 use Rattle.tally.proofs.TallyLaws.{and-left, and-right, and-both, count-none, count-one}
 use Rattle.rules.specs.Grid.{Puzzle, keeps}
-use Rattle.rules.specs.Number.{symbols, grids}
+use Rattle.rules.specs.Number.{grids}
+use Rattle.rules.specs.Short.{symbols}
 use Rattle.number.specs.VerdictLaws.{symbols-once}
 use Rattle.table.specs.Table.{Table, fits, left}
 use Rattle.line_laws.specs.Grids.{GridOf}

@@ -15,7 +15,7 @@ use Rattle.tally.proofs.WayLaws.{way-length}
 use Rattle.rules.specs.Grid.{isBlack, digits, Puzzle, across, down, index, line, target, cell, row, column}
 use Rattle.rules.proofs.GridLaws.{line-way}
 use Rattle.rules.specs.Mark.{leftBlack, rightBlack, upperBlack, lowerBlack}
-use Rattle.rules.specs.Number.{symbols}
+use Rattle.rules.specs.Short.{symbols}
 use Rattle.number.specs.VerdictLaws.{symbols-once}
 use Rattle.table.specs.Table.{Table, places, firstBlack, half, everyValue}
 use Rattle.table.specs.Closed.{Supported, Closed}
@@ -112,7 +112,7 @@ module _ (p : Puzzle) (t : Table) (z : p .size ≤ 9) (cl : Closed p t)
 
   -- so it has two blacks or more, and with the rows' two exactly two
   columns-least : (c : ℕ) → c < p .size → 2 ≤ count (λ r. isBlack (cell (p .size) g r c)) (span 0 (p .size))
-  unfolding g sum symbols column line index places firstBlack
+  unfolding g sum column line index places firstBlack
   columns-least c k =
       let w = line-way (p .size) g (read-way (p .size) t) (down c) k in
       let by = length-by-value (symbols (p .size)) (symbols-once (p .size) z) (column (p .size) g c) (λ x m. way-mem w x m) in

@@ -12,7 +12,7 @@ use Rattle.tally.proofs.TallyLaws.{span-in, span-length, map-at, Once}
 use Rattle.tally.proofs.WayLaws.{way-map}
 use Rattle.rules.specs.Grid.{black, digits, Line, index, line, cell}
 use Rattle.rules.proofs.GridLaws.{place-lt}
-use Rattle.rules.specs.Number.{symbols}
+use Rattle.rules.specs.Short.{symbols}
 use Rattle.table.specs.Table.{Table, places, half}
 use Rattle.table.specs.Reading.{first, choices, readCell, readOff}
 use Rattle.line_laws.proofs.Lists.{count-pos, count-sole, once-same, map-on}
@@ -73,7 +73,7 @@ module _ (n k : ℕ) (cands : ℕ → Bool) where
       go (a-second e) = first-none cands black (digits n) (none (omega arith)) ∙ sym (cell-black v (omega arith))
 
 read-symbol : (n : ℕ) (cands : ℕ → Bool) → List·Memᴰ (readCell n cands) (symbols n)
-unfolding readCell symbols
+unfolding readCell
 read-symbol n cands = ⊎-elim (λ w. List·Memᴰ·tail (w .0)) (λ w. List·Memᴰ·head (w .1)) (first-cases cands black (digits n))
 
 -- ---- the grid that is read off

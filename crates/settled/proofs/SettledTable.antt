@@ -23,41 +23,41 @@ use Rattle.settled.proofs.ReadLaws.{valueOf, settle, read-value, read-w
 -- ---- a line of a closed table with one candidate at each place
 
 -- The value of a place of a line.
-unfoldable pub valueAt : ℕ → Table → Line → ℕ → ℕ
-valueAt n t ℓ i = valueOf n (firstBlack ℓ) (places t ℓ i)
+unfoldable pub settledValue : ℕ → Table → Line → ℕ → ℕ
+settledValue n t ℓ i = valueOf n (firstBlack ℓ) (places t ℓ i)
 
 module _ (p : Puzzle) (t : Table) (z : p .size ≤ 9) (cl : Closed p t) (ℓ : Line) (h : index ℓ < p .size)
     (one : (i : ℕ) → i < p .size → choices (p .size) (firstBlack ℓ) (places t ℓ i) ≡ 1) where
-  pub place-settled : (i : ℕ) → i < p .size → Settled (p .size) (firstBlack ℓ) (places t ℓ i) (valueAt (p .size) t ℓ i)
-  unfolding valueAt
+  pub place-settled : (i : ℕ) → i < p .size → Settled (p .size) (firstBlack ℓ) (places t ℓ i) (settledValue (p .size) t ℓ i)
+  unfolding settledValue
   place-settled i k = settle (p .size) (firstBlack ℓ) (places t ℓ i) (one i k)
 
-  read-line : line (p .size) (readOff (p .size) t) ℓ ≡ lineOf (p .size) (valueAt (p .size) t ℓ)
+  read-line : line (p .size) (readOff (p .size) t) ℓ ≡ lineOf (p .size) (settledValue (p .size) t ℓ)
   unfolding lineOf
   read-line =
       line-read (p .size) t ℓ h
       ∙ map-on (span 0 (p .size)) (λ i m. let b = span-in 0 (p .size) i m in
-      read-value (p .size) (firstBlack ℓ) (places t ℓ i) z (first-high ℓ) (valueAt (p .size) t ℓ i) (place-settled i (omega arith)))
+      read-value (p .size) (firstBlack ℓ) (places t ℓ i) z (first-high ℓ) (settledValue (p .size) t ℓ i) (place-settled i (omega arith)))
 
   pub line-size : 2 ≤ p .size
-  line-size = closed-size (p .size) (firstBlack ℓ) (target p ℓ) (places t ℓ) z (omega arith) (first-high ℓ) (cl .lines ℓ h) (valueAt (p .size) t ℓ) place-settled
+  line-size = closed-size (p .size) (firstBlack ℓ) (target p ℓ) (places t ℓ) z (omega arith) (first-high ℓ) (cl .lines ℓ h) (settledValue (p .size) t ℓ) place-settled
 
   -- It reads off as a lawful line that keeps its target, with the values of its places.
   pub read-lawful : LawfulLine (p .size) (line (p .size) (readOff (p .size) t) ℓ)
   read-lawful =
       rw read-line (closed-lawful (p .size) (firstBlack ℓ) (target p ℓ) (places t ℓ) z (omega arith) (first-high ℓ) (cl .lines ℓ h)
-      (valueAt (p .size) t ℓ) place-settled)
+      (settledValue (p .size) t ℓ) place-settled)
 
   pub read-keeps-line : keepsLine (p .size) (target p ℓ) (line (p .size) (readOff (p .size) t) ℓ) ≡ true
   read-keeps-line =
       rw read-line (closed-keeps (p .size) (firstBlack ℓ) (target p ℓ) (places t ℓ) z (omega arith) (first-high ℓ) (cl .lines ℓ h)
-      (valueAt (p .size) t ℓ) place-settled)
+      (settledValue (p .size) t ℓ) place-settled)
 
   pub read-fits-line : FitsLine (p .size) (firstBlack ℓ) (places t ℓ) (line (p .size) (readOff (p .size) t) ℓ)
   read-fits-line i k =
       rw (
         read-line,
-        closed-own (p .size) (firstBlack ℓ) (target p ℓ) (places t ℓ) z (omega arith) (first-high ℓ) (cl .lines ℓ h) (valueAt (p .size) t ℓ) place-settled i k,
+        closed-own (p .size) (firstBlack ℓ) (target p ℓ) (places t ℓ) z (omega arith) (first-high ℓ) (cl .lines ℓ h) (settledValue (p .size) t ℓ) place-settled i k,
       )
       (place-settled i k .kept)
 

@@ -11,7 +11,8 @@ use borrow.Author.Tests.{ltb-true, leb-true}
 use Rattle.tally.specs.Tally.{all, join}
 use Rattle.tally.proofs.TallyLaws.{and-left, and-right, and-both, span-mem, or-split}
 use Rattle.rules.specs.Grid.{digits, Puzzle, across, down}
-use Rattle.rules.specs.Mark.{rejects, markRow, markColumn, markValue, has, keepsMark, keepsMarks}
+use Rattle.rules.specs.Mark.{rejects, markRow, markColumn, markValue, has, keepsMark}
+use Rattle.rules.specs.Short.{keepsMarks}
 use Rattle.rules.specs.Number.{solves, number, Solution}
 use Rattle.rules.specs.Check.{refusal, named, checkMark}
 use Rattle.rules.specs.CheckParts.{markChecks}
@@ -86,7 +87,7 @@ module _ (p : Puzzle) (small : p .size ≤ 9) where
   -- Marks leave just the grids that keep them.
   pub marks-fits : (t : Table) (ms : List ℕ) → ((m : ℕ) → List·Memᴰ m ms → AcceptedMark (p .size) m) → (g : List ℕ) → GridOf p g →
       fits (p .size) (markedAll t ms) g ≡ (fits (p .size) t g && keepsMarks (p .size) ms g)
-  unfolding markedAll keepsMarks all
+  unfolding markedAll all
   marks-fits t [] a g d = sym (and-true (fits (p .size) t g))
   marks-fits t (m ∷ ms) a g d =
       marks-fits (marked t m) ms (λ x k. a x (List·Memᴰ·tail k)) g d

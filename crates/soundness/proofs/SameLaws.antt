@@ -7,7 +7,8 @@ use Rattle.tally.specs.Tally.{count}
 use Rattle.tally.specs.Way.{Way}
 use Rattle.tally.proofs.TallyLaws.{test-ext, count-ways}
 use Rattle.rules.specs.Grid.{Puzzle, keeps}
-use Rattle.rules.specs.Number.{symbols, grids}
+use Rattle.rules.specs.Number.{grids}
+use Rattle.rules.specs.Short.{symbols}
 use Rattle.table.specs.Table.{Table, fits, left}
 use Rattle.line_laws.specs.Grids.{GridOf}
 use Rattle.soundness.proofs.GridValues.{fits-has, has-fits}

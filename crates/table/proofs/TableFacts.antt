@@ -8,7 +8,8 @@ use lib.ListN.{length}
 use Rattle.tally.specs.Tally.{span, sum, all, any, count, inFront, ways, keep, join}
 use Rattle.rules.specs.Grid.{digits, lawful, untilBlack, inside, lineSum, meets, keepsLine, cell, row, column, line, lines, target, keeps}
 use Rattle.rules.specs.Mark.{rejects}
-use Rattle.rules.specs.Number.{symbols, grids}
+use Rattle.rules.specs.Number.{grids}
+use Rattle.rules.specs.Short.{symbols}
 use Rattle.table.specs.Closed.{subsets, subsetsWith, fromStarts, insides, outsides, arrangements, place, allows}
 use Rattle.rules.proofs.Samples.{three}
 use Rattle.table.specs.Table.{Table, places, firstBlack, half, everyValue, own, fits, left, bitOf, hasBit, tableOf}
@@ -45,7 +46,7 @@ pub record TableFacts : Type 0 where
 pub facts : TableFacts
 unfolding
     span sum all any count inFront ways keep join
-    digits lawful untilBlack inside lineSum meets keepsLine cell row column line lines target keeps rejects symbols grids
+    digits lawful untilBlack inside lineSum meets keepsLine cell row column line lines target keeps rejects grids
     subsets subsetsWith fromStarts insides outsides arrangements three
     places firstBlack half everyValue own fits left bitOf hasBit tableOf place allows
     struck strikes taken marked markedAll lays lies opening first readCell readOff candidatesShown

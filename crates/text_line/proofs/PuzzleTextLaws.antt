@@ -14,7 +14,8 @@ use Rattle.rules.specs.Grid.{digits, Puzzle, puzzle}
 use Rattle.rules.specs.Mark.{marksOf}
 use Rattle.rules.proofs.GridLaws.{solution-way}
 use Rattle.rules.specs.Check.{refusal, puzzleChecks, countChecks, solveChecks}
-use Rattle.rules.specs.Number.{symbols, number, Verdict, unsolvable, unique, multiple, verdictOf, Solution}
+use Rattle.rules.specs.Number.{number, Verdict, unsolvable, unique, multiple, verdictOf, Solution}
+use Rattle.rules.specs.Short.{symbols}
 use Rattle.rules.proofs.SizeLaws.{size-in}
 use Rattle.engine.specs.declared.Solved.{Solved}
 use Rattle.engine.specs.Answer.{solvedAs, SolveGiven}
@@ -34,7 +35,7 @@ answer-put n g e w = rw e w
 -- ---- the cells of a solution have a text
 
 cell-shown : (n c : ℕ) → n ≤ 9 → List·Memᴰ c (symbols n) → shown c ≡ true
-unfolding symbols digits
+unfolding digits
 cell-shown n c h (List·Memᴰ·head e) = rw (eq-eqb c 255 e)
 cell-shown n c h (List·Memᴰ·tail m) =
     let i = span-in 1 (n - 2) c m in rw (ne-eqb c 255 (λ e. omega arith)) (le-leb c 9 (omega arith))

@@ -7,8 +7,8 @@ use lib.Dec.{eqb}
 use lib.ListN.{replicate}
 use Rattle.tally.specs.Tally.{span, all, sum, count, inFront, ways}
 use Rattle.rules.specs.Grid.{digits, lawful, untilBlack, inside, lineSum, meets, keepsLine, cell, row, column, line, lines, target, keeps}
-use Rattle.rules.specs.Mark.{keepsMarks}
-use Rattle.rules.specs.Number.{symbols, grids, solves, number, verdictOf}
+use Rattle.rules.specs.Short.{keepsMarks, symbols}
+use Rattle.rules.specs.Number.{grids, solves, number, verdictOf}
 use Rattle.rules.specs.Check.{refusal, maxTarget}
 use Rattle.rules.proofs.Samples.{diagonal, corner}
 use Rattle.text_rules.specs.Fields.{inFirst, fields, isDigit, valueFrom, value, shaped, isDecimal, wellFormed, numbers, puzzleFrom, puzzleOf, numberChecks, lineChecks}
@@ -28,22 +28,22 @@ spaced (d ∷ (e ∷ ds)) = (48 + d) ∷ 32 ∷ spaced (e ∷ ds)
 
 -- 3 1 0 0 1 0 0: unique #1#/1##/##1
 pub sample-one : sampleText (spaced (3 ∷ 1 ∷ 0 ∷ 0 ∷ 1 ∷ 0 ∷ 0 ∷ [])) corner ≡ 117 ∷ 110 ∷ 105 ∷ 113 ∷ 117 ∷ 101 ∷ 32 ∷ 35 ∷ 49 ∷ 35 ∷ 47 ∷ 49 ∷ 35 ∷ 35 ∷ 47 ∷ 35 ∷ 35 ∷ 49 ∷ []
-unfolding sampleText spaced inFirst fields isDigit valueFrom shaped isDecimal wellFormed numbers puzzleFrom numberChecks lineChecks numberText cellText joined gridText answerText span all sum count inFront ways digits lawful untilBlack inside lineSum meets keepsLine cell row column line lines target keeps keepsMarks symbols grids solves number verdictOf refusal maxTarget
+unfolding sampleText spaced inFirst fields isDigit valueFrom shaped isDecimal wellFormed numbers puzzleFrom numberChecks lineChecks numberText cellText joined gridText answerText span all sum count inFront ways digits lawful untilBlack inside lineSum meets keepsLine cell row column line lines target keeps grids solves number verdictOf refusal maxTarget
 sample-one = refl
 
 -- 3 0 1 0 0 1 0: multiple 1##/#1#/##1
 pub sample-several : sampleText (spaced (3 ∷ 0 ∷ 1 ∷ 0 ∷ 0 ∷ 1 ∷ 0 ∷ [])) diagonal ≡ 109 ∷ 117 ∷ 108 ∷ 116 ∷ 105 ∷ 112 ∷ 108 ∷ 101 ∷ 32 ∷ 49 ∷ 35 ∷ 35 ∷ 47 ∷ 35 ∷ 49 ∷ 35 ∷ 47 ∷ 35 ∷ 35 ∷ 49 ∷ []
-unfolding sampleText spaced inFirst fields isDigit valueFrom shaped isDecimal wellFormed numbers puzzleFrom numberChecks lineChecks numberText cellText joined gridText answerText span all sum count inFront ways digits lawful untilBlack inside lineSum meets keepsLine cell row column line lines target keeps keepsMarks symbols grids solves number verdictOf refusal maxTarget
+unfolding sampleText spaced inFirst fields isDigit valueFrom shaped isDecimal wellFormed numbers puzzleFrom numberChecks lineChecks numberText cellText joined gridText answerText span all sum count inFront ways digits lawful untilBlack inside lineSum meets keepsLine cell row column line lines target keeps grids solves number verdictOf refusal maxTarget
 sample-several = refl
 
 -- 3 1 1 0 0 1 0: unsolvable
 pub sample-none : sampleText (spaced (3 ∷ 1 ∷ 1 ∷ 0 ∷ 0 ∷ 1 ∷ 0 ∷ [])) [] ≡ 117 ∷ 110 ∷ 115 ∷ 111 ∷ 108 ∷ 118 ∷ 97 ∷ 98 ∷ 108 ∷ 101 ∷ []
-unfolding sampleText spaced inFirst fields isDigit valueFrom shaped isDecimal wellFormed numbers puzzleFrom numberChecks lineChecks numberText cellText joined gridText answerText span all sum count inFront ways digits lawful untilBlack inside lineSum meets keepsLine cell row column line lines target keeps keepsMarks symbols grids solves number verdictOf refusal maxTarget
+unfolding sampleText spaced inFirst fields isDigit valueFrom shaped isDecimal wellFormed numbers puzzleFrom numberChecks lineChecks numberText cellText joined gridText answerText span all sum count inFront ways digits lawful untilBlack inside lineSum meets keepsLine cell row column line lines target keeps grids solves number verdictOf refusal maxTarget
 sample-none = refl
 
 -- 3 2 0 0 0 0 0: refused 3
 pub sample-too-great : sampleText (spaced (3 ∷ 2 ∷ 0 ∷ 0 ∷ 0 ∷ 0 ∷ 0 ∷ [])) [] ≡ 114 ∷ 101 ∷ 102 ∷ 117 ∷ 115 ∷ 101 ∷ 100 ∷ 32 ∷ 51 ∷ []
-unfolding sampleText spaced inFirst fields isDigit valueFrom shaped isDecimal wellFormed numbers puzzleFrom numberChecks lineChecks numberText cellText joined gridText answerText span all sum count inFront ways digits lawful untilBlack inside lineSum meets keepsLine cell row column line lines target keeps keepsMarks symbols grids solves number verdictOf refusal maxTarget
+unfolding sampleText spaced inFirst fields isDigit valueFrom shaped isDecimal wellFormed numbers puzzleFrom numberChecks lineChecks numberText cellText joined gridText answerText span all sum count inFront ways digits lawful untilBlack inside lineSum meets keepsLine cell row column line lines target keeps grids solves number verdictOf refusal maxTarget
 sample-too-great = refl
 
 -- ---- refusals
