@@ -10,6 +10,7 @@ use lib.ListN.{length, getD, set, length-set}
 use lib.Seq.{getD-set-same, getD-set-other}
 use borrow.Author.Tests.{eq-eqb, ne-eqb}
 use Rattle.rules.specs.Grid.{Puzzle}
+use Rattle.rules.specs.Mark.{marksOf}
 use Rattle.rules.specs.Check.{refusal, countChecks, solveChecks}
 use Rattle.puzzle.proofs.PuzzleLaws.{accepted-size}
 use Rattle.engine.proofs.CountLaws.{count-puzzle}
@@ -18,7 +19,7 @@ use Rattle.engine.proofs.SolveLaws.{refused-count, refused-7, refused-0, solve-
 use Rattle.candidates.specs.declared.Outcome.{Outcome}
 use Rattle.candidates.specs.declared.Outcome.the-variants.{Refused, Contradicted, Written}
 use Rattle.candidates.specs.Remaining.{WrittenTable, TableGiven}
-use Rattle.doppelblock.specs.Number.{tableNumber, pairs, entriesOf, TableNumbered}
+use Rattle.doppelblock.specs.Number.{tableNumber, entriesOf, TableNumbered}
 use Rattle.doppelblock.specs.Entries.{entryCount, mostLent}
 
 -- ---- entry by entry
@@ -56,31 +57,31 @@ filled-next {es} {bs₀} {bs} i e f h q =
       ];
     }
 
-pairs-ext : (bs es : List ℕ) → length bs ≡ 2 * length es →
-    ((j : ℕ) → j < length es → getD bs (2 * j) 0 * 256 + getD bs (2 * j + 1) 0 ≡ getD es j 0) → pairs bs ≡ es
-unfolding pairs
-pairs-ext [] [] h e = refl
-pairs-ext [] (x ∷ es) h e = absurd (omega arith)
-pairs-ext (a ∷ []) [] h e = absurd (omega arith)
-pairs-ext (a ∷ []) (x ∷ es) h e = absurd (omega arith)
-pairs-ext (a ∷ (b ∷ bs)) [] h e = absurd (omega arith)
-pairs-ext (a ∷ (b ∷ bs)) (x ∷ es) h e =
-    ap₂ _∷_ (e 0 (omega arith)) (pairs-ext bs es (omega arith) (λ j l.
+marks-ext : (bs es : List ℕ) → length bs ≡ 2 * length es →
+    ((j : ℕ) → j < length es → getD bs (2 * j) 0 * 256 + getD bs (2 * j + 1) 0 ≡ getD es j 0) → marksOf bs ≡ es
+unfolding marksOf
+marks-ext [] [] h e = refl
+marks-ext [] (x ∷ es) h e = absurd (omega arith)
+marks-ext (a ∷ []) [] h e = absurd (omega arith)
+marks-ext (a ∷ []) (x ∷ es) h e = absurd (omega arith)
+marks-ext (a ∷ (b ∷ bs)) [] h e = absurd (omega arith)
+marks-ext (a ∷ (b ∷ bs)) (x ∷ es) h e =
+    ap₂ _∷_ (e 0 (omega arith)) (marks-ext bs es (omega arith) (λ j l.
     let p : 2 * suc j ≡ suc (suc (2 * j)) = omega arith in
     let q : suc (suc (2 * j)) + 1 ≡ suc (suc (2 * j + 1)) = omega arith in
     rw (p, q) at (e (suc j) (omega arith))))
 
-pairs-length : (bs : List ℕ) → length (pairs bs) ≡ length bs / 2
-unfolding pairs
-pairs-length [] = refl
-pairs-length (a ∷ []) = refl
-pairs-length (a ∷ (b ∷ bs)) = omega (arith, pairs-length bs)
+marks-length : (bs : List ℕ) → length bs % 2 ≡ 0 → length (marksOf bs) ≡ length bs / 2
+unfolding marksOf
+marks-length [] e = refl
+marks-length (a ∷ []) e = absurd (omega arith)
+marks-length (a ∷ (b ∷ bs)) e = omega (arith, marks-length bs (omega arith))
 
 pub filled-end : {es bs₀ bs : List ℕ} {i : ℕ} → EntriesFilled es bs₀ bs i → length es ≤ i → length bs₀ ≡ 2 * length es → entriesOf bs ≡ es
 unfolding entriesOf
 filled-end {es} {bs₀} {bs} f h e =
     let long : length bs ≡ 2 * length es = f .size ∙ e in
-    rw (eq-eqb (length bs % 2) 0 (omega arith)) (pairs-ext bs es long (λ j l. f .are j (omega arith)))
+    rw (eq-eqb (length bs % 2) 0 (omega arith)) (marks-ext bs es long (λ j l. f .are j (omega arith)))
 
 -- ---- room
 
@@ -94,7 +95,7 @@ pub entries-length : (bs : List ℕ) → length (entriesOf bs) ≡ entryCount (l
 unfolding entriesOf
 entries-length bs =
     elim (ℕ-discrete (length bs % 2) 0) [
-      | yes z ↦ rw (eq-eqb (length bs % 2) 0 z) (pairs-length bs)
+      | yes z ↦ rw (eq-eqb (length bs % 2) 0 z) (marks-length bs z)
       | no z ↦ rw (ne-eqb (length bs % 2) 0 z)
     ]
 

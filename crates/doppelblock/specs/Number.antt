@@ -1,8 +1,9 @@
 -- What the exported calls give to a host: numbers. Assumes nothing.
-use Prim.Native.Nat.{ℕ, _+_, _*_, _%_}
+use Prim.Native.Nat.{ℕ, _%_}
 use mathlib.Core.Path.{_≡_}
-use mathlib.Core.List.{List, [], _∷_}
+use mathlib.Core.List.{List, []}
 use Rattle.rules.specs.Grid.{Puzzle}
+use Rattle.rules.specs.Mark.{marksOf}
 use Rattle.sheet_marking.specs.declared.Marked.{Marked}
 use Rattle.sheet_marking.specs.declared.Marked.the-variants.{Refused, Right, Wrong}
 use Rattle.engine.specs.declared.Counted.{Counted}
@@ -11,7 +12,6 @@ use Rattle.engine.specs.declared.Counted.the-variants as counts
 use Rattle.engine.specs.declared.Solved.{Solved}
 use Rattle.engine.specs.declared.Solved.the-variants.{Unsolvable, Unique, Multiple}
 use Rattle.engine.specs.declared.Solved.the-variants as verdicts
-use Rattle.engine.specs.Answer.{SolveGiven}
 use Rattle.candidates.specs.declared.Outcome.{Outcome}
 use Rattle.candidates.specs.declared.Outcome.the-variants.{Contradicted, Written}
 use Rattle.candidates.specs.declared.Outcome.the-variants as tables
@@ -38,27 +38,15 @@ solveNumber Unsolvable = 100
 solveNumber Unique = 101
 solveNumber Multiple = 102
 
--- The number and the cells are those of an answer of Solve.
-pub record SolveNumbered (p : Puzzle) (ms : List ℕ) (number : ℕ) (cells cells′ : List ℕ) : Type 0 where
-  pub answer : Solved
-  pub given : SolveGiven p ms answer cells cells′
-  pub number-is : number ≡ solveNumber answer
-
 -- The number of each answer of Candidates.
 abbrev pub tableNumber : Outcome → ℕ
 tableNumber (tables.Refused k) = k
 tableNumber Written = 0
 tableNumber Contradicted = 100
 
--- The entries of bytes taken in pairs.
-unfoldable pub pairs : List ℕ → List ℕ
-pairs [] = []
-pairs (a ∷ []) = []
-pairs (a ∷ (b ∷ l)) = (a * 256 + b) ∷ pairs l
-
--- The entries of a list of bytes: an odd number of bytes has none.
+-- The entries of a list of bytes, two an entry as with marks: an odd number of bytes has none.
 unfoldable pub entriesOf : List ℕ → List ℕ
-entriesOf bs = cond (eqb (length bs % 2) 0) (pairs bs) []
+entriesOf bs = cond (eqb (length bs % 2) 0) (marksOf bs) []
 
 -- The number and the entries are those of an answer of Candidates; unless the number is 0, the bytes are as they were.
 pub record TableNumbered (p : Puzzle) (ms : List ℕ) (number : ℕ) (bytes bytes′ : List ℕ) : Type 0 where

@@ -8,11 +8,11 @@ ghost use Rattle.rules.specs.Sums.{targetSums};
 ghost use Rattle.rules.specs.Grid.{puzzle};
 ghost use Rattle.sheet_marking.specs.Answer.{markSheet};
 ghost use Rattle.rules.specs.Mark.{marksOf};
-ghost use Rattle.engine.specs.Answer.{countAnswer};
+ghost use Rattle.engine.specs.Answer.{countAnswer, solveAnswer, SolveWritten};
 ghost use Prim.Native.Nat.{_*_, min};
 ghost use lib.ListN.{length};
 ghost use Rattle.doppelblock.specs.Entries.{entryCount, mostLent};
-ghost use Rattle.doppelblock.specs.Number.{entriesOf, TableNumbered, sheetNumber, countOut, solveNumber, SolveNumbered};
+ghost use Rattle.doppelblock.specs.Number.{entriesOf, TableNumbered, sheetNumber, countOut, solveNumber};
 
 pub struct Answer {
     pub number: u8,
@@ -112,8 +112,9 @@ pub extern "C" fn doppelblock_solve(
     marks: &[u8],
     cells: &mut [u8],
 ) -> u8
-    ensures { λ r. ⌜ SolveNumbered (puzzle size (now (rows .entry)) (now (columns .entry))) (marksOf (now (marks .entry)))
-        r (now (cells .entry)) (now (cells .exit)) ⌝ }
+    ensures { λ r. ⌜ (r ≡ solveNumber
+        (solveAnswer (puzzle size (now (rows .entry)) (now (columns .entry))) (marksOf (now (marks .entry))) (length (now (cells .entry)))))
+        × SolveWritten (puzzle size (now (rows .entry)) (now (columns .entry))) (marksOf (now (marks .entry))) (now (cells .entry)) (now (cells .exit)) ⌝ }
 {
     solve_number(engine::solve(size, rows, columns, marks, cells))
 }

@@ -1,8 +1,8 @@
 -- The verdict and the grid from the search. Assumes nothing.
-use Prim.Native.Nat.{ℕ, zero, suc, _*_, _≤_}
+use Prim.Native.Nat.{ℕ, zero, suc, _*_, _≤_, min}
 use mathlib.Core.Path.{_≡_, refl, sym, ap, _∙_}
 use mathlib.Core.Bool.{Bool, true, false}
-use mathlib.Core.Logic.{_⊎_, inl, ⊎-elim}
+use mathlib.Core.Logic.{inl, ⊎-elim}
 use mathlib.Core.List.{List, [], _∷_}
 use native.Mathlib.Omega.{arith}
 use lib.Dec.{eqb}
@@ -14,8 +14,7 @@ use Rattle.rules.specs.Size.{Size}
 use Rattle.rules.specs.Grid.{Puzzle, puzzle}
 use Rattle.rules.specs.Check.{checkBuffer, refusal, checkMark, puzzleChecks, countChecks, solveChecks}
 use Rattle.rules.specs.CheckParts.{markChecks}
-use Rattle.rules.specs.Number.{number, capped, verdictOf}
-use Rattle.number.specs.VerdictLaws.{verdict-capped}
+use Rattle.rules.specs.Number.{number, capped}
 use Rattle.puzzle.proofs.PuzzleLaws.{puzzle-numbered, accepted-size}
 use Rattle.mark_list.proofs.MarkLaws.{mark-numbered}
 use Rattle.soundness.specs.SameGrids.{Within}
@@ -28,7 +27,7 @@ use Rattle.backtrack.specs.Search.{SearchAsk, Searched}
 use Rattle.prepare.specs.Prepared.{Prepared, Marked}
 use Rattle.engine.specs.declared.Solved.{Solved}
 use Rattle.engine.specs.declared.Solved.the-variants.{Refused, Unsolvable, Unique, Multiple}
-use Rattle.engine.specs.Answer.{CountAsk, solvedAs, SolveGiven, SolveAsk, Found}
+use Rattle.engine.specs.Answer.{CountAsk, solvedAs, solveAnswer, SolveWritten, SolveAsk, Found}
 use Rattle.engine.proofs.CountLaws.{count-marks, count-puzzle, count-found, count-none}
 
 -- ---- refusals
@@ -64,16 +63,13 @@ refused-small n rows columns ms k d z =
 
 -- ---- the answers
 
-pub verdict-0 : (found : ℕ) → found ≡ 0 → Unsolvable ≡ solvedAs 0 (verdictOf found)
-unfolding verdictOf
+pub verdict-0 : (found : ℕ) → found ≡ 0 → Unsolvable ≡ solvedAs 0 found
 verdict-0 found e = rw e
 
-pub verdict-1 : (found : ℕ) → found ≡ 1 → Unique ≡ solvedAs 0 (verdictOf found)
-unfolding verdictOf
+pub verdict-1 : (found : ℕ) → found ≡ 1 → Unique ≡ solvedAs 0 found
 verdict-1 found e = rw e
 
-pub verdict-2 : (found : ℕ) → (found ≡ 0 → ⊥) → (found ≡ 1 → ⊥) → Multiple ≡ solvedAs 0 (verdictOf found)
-unfolding verdictOf
+pub verdict-2 : (found : ℕ) → (found ≡ 0 → ⊥) → (found ≡ 1 → ⊥) → Multiple ≡ solvedAs 0 found
 verdict-2 zero a b = absurd (a refl)
 verdict-2 (suc zero) a b = absurd (b refl)
 verdict-2 (suc (suc k)) a b = refl
@@ -118,22 +114,27 @@ module _ {p : Puzzle} {ms : List ℕ} {len : ℕ} (a : SolveAsk p ms len) where
 
 -- ---- the whole call
 
-pub solve-refused : {p : Puzzle} {ms cells : List ℕ} {k : ℕ} → k ≡ refusal (solveChecks p ms (length cells)) → (k ≡ 0 → ⊥) → SolveGiven p ms (Refused k) cells cells
+pub solve-refused : {p : Puzzle} {ms cells : List ℕ} {k : ℕ} → k ≡ refusal (solveChecks p ms (length cells)) → (k ≡ 0 → ⊥) →
+    (Refused k ≡ solveAnswer p ms (length cells)) × SolveWritten p ms cells cells
 solve-refused {p} {ms} {cells} {k} d z =
-    record { answer-is = go (refusal (solveChecks p ms (length cells))) d; untouched = λ _. refl; written = λ e. absurd (z (d ∙ e)) }
+    (go (refusal (solveChecks p ms (length cells))) d, record { untouched = λ _. refl; written = λ e. absurd (z (d ∙ e)) })
   where
-    go : (m : ℕ) → k ≡ m → Refused k ≡ solvedAs m (verdictOf (number p ms))
+    go : (m : ℕ) → k ≡ m → Refused k ≡ solvedAs m (number p ms)
     go zero e = absurd (z e)
     go (suc m) e = ap Refused e
 
+-- a count to the cap 2 tells the verdict
+pub solved-capped : (k : ℕ) → solvedAs 0 (min 2 k) ≡ solvedAs 0 k
+solved-capped zero = refl
+solved-capped (suc zero) = refl
+solved-capped (suc (suc k)) = let e : min 2 (suc (suc k)) ≡ 2 = omega arith in rw e
+
 pub solve-done : {p : Puzzle} {ms cells cells′ : List ℕ} {k r : ℕ} {answer : Solved} → k ≡ refusal (solveChecks p ms (length cells)) → k ≡ 0 → Found p ms r cells cells′ →
-    answer ≡ solvedAs 0 (verdictOf r) → SolveGiven p ms answer cells cells′
+    answer ≡ solvedAs 0 r → (answer ≡ solveAnswer p ms (length cells)) × SolveWritten p ms cells cells′
 unfolding capped
 solve-done {p} {ms} {cells} {cells′} {k} {r} d z f e =
     let q : refusal (solveChecks p ms (length cells)) ≡ 0 = sym d ∙ z in
-    let c = f .count in
-    record {
-      answer-is = e ∙ ap (solvedAs 0) (ap verdictOf c ∙ verdict-capped (number p ms)) ∙ ap (λ y. solvedAs y (verdictOf (number p ms))) (sym q);
-      untouched = λ u. ⊎-elim (λ x. absurd (x q)) (λ x. f .untouched (omega arith)) u;
-      written = λ _ h. f .written (omega arith);
-    }
+    let c = f .count in (
+      e ∙ ap (solvedAs 0) c ∙ solved-capped (number p ms) ∙ ap (λ y. solvedAs y (number p ms)) (sym q),
+      record { untouched = λ u. ⊎-elim (λ x. absurd (x q)) (λ x. f .untouched (omega arith)) u; written = λ _ h. f .written (omega arith) },
+    )

@@ -6,7 +6,7 @@ use mathlib.Core.List.{List}
 use lib.ListN.{length}
 use Rattle.rules.specs.Grid.{Puzzle}
 use Rattle.rules.specs.Check.{refusal, countChecks, solveChecks}
-use Rattle.rules.specs.Number.{Solution, number, capped, Verdict, unsolvable, unique, multiple, verdictOf}
+use Rattle.rules.specs.Number.{Solution, number, capped}
 use Rattle.engine.specs.declared.Counted.{Counted}
 use Rattle.engine.specs.declared.Counted.the-variants.{Count}
 use Rattle.engine.specs.declared.Counted.the-variants as counts
@@ -31,20 +31,19 @@ pub record CountAsk (p : Puzzle) (ms : List ℕ) : Type 0 where
 
 -- ---- Solve
 
--- The answer of a refusal number and a verdict: 0 is not refused.
-abbrev pub solvedAs : ℕ → Verdict → Solved
-solvedAs (suc k) v = verdicts.Refused (suc k)
-solvedAs zero unsolvable = Unsolvable
-solvedAs zero unique = Unique
-solvedAs zero multiple = Multiple
+-- The answer of a refusal number and a number of grids: 0 is not refused, and the verdict is that there is none, one, or more.
+abbrev pub solvedAs : ℕ → ℕ → Solved
+solvedAs (suc k) grids = verdicts.Refused (suc k)
+solvedAs zero zero = Unsolvable
+solvedAs zero (suc zero) = Unique
+solvedAs zero (suc (suc more)) = Multiple
 
 -- The answer of Solve: the number that the puzzle, its marks or a cell buffer of this length are refused by, else the verdict on the number of grids.
 abbrev pub solveAnswer : Puzzle → List ℕ → ℕ → Solved
-solveAnswer p ms len = solvedAs (refusal (solveChecks p ms len)) (verdictOf (number p ms))
+solveAnswer p ms len = solvedAs (refusal (solveChecks p ms len)) (number p ms)
 
--- The answer is that of Solve. The cells hold one of the grids, which of them is left open; on a refusal, and if there is none, they are as they were.
-pub record SolveGiven (p : Puzzle) (ms : List ℕ) (answer : Solved) (cells cells′ : List ℕ) : Type 0 where
-  pub answer-is : answer ≡ solveAnswer p ms (length cells)
+-- What Solve writes: one of the grids, which of them is left open; on a refusal, and if there is none, the cells are as they were.
+pub record SolveWritten (p : Puzzle) (ms cells cells′ : List ℕ) : Type 0 where
   pub untouched : (refusal (solveChecks p ms (length cells)) ≡ 0 → ⊥) ⊎ (number p ms ≡ 0) → cells′ ≡ cells
   pub written : refusal (solveChecks p ms (length cells)) ≡ 0 → 0 < number p ms → Solution p ms cells′
 

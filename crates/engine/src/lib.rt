@@ -8,9 +8,9 @@ ghost use mathlib.Core.Path.{_≡_};
 ghost use Rattle.rules.specs.Mark.{marksOf};
 ghost use lib.ListN.{length};
 ghost use Rattle.rules.specs.Check.{refusal, countChecks, solveChecks};
-ghost use Rattle.rules.specs.Number.{capped, verdictOf};
+ghost use Rattle.rules.specs.Number.{capped};
 ghost use Rattle.rules.specs.Grid.{puzzle};
-ghost use Rattle.engine.specs.Answer.{countAnswer, CountAsk, solvedAs, SolveAsk, Found, SolveGiven};
+ghost use Rattle.engine.specs.Answer.{countAnswer, CountAsk, solvedAs, solveAnswer, SolveAsk, Found, SolveWritten};
 
 pub enum Counted {
     Refused(u8),
@@ -85,7 +85,7 @@ fn solve_grids(n: usize, rows: &[u8], columns: &[u8], marks: &[u8], cells: &mut 
 }
 
 fn verdict(found: u64) -> Solved
-    ensures { λ r. ⌜ r ≡ solvedAs 0 (verdictOf found) ⌝ }
+    ensures { λ r. ⌜ r ≡ solvedAs 0 found ⌝ }
 {
     if found == 0 {
         return Solved::Unsolvable;
@@ -98,8 +98,8 @@ fn verdict(found: u64) -> Solved
 
 // The verdict, and one of the grids if there is one.
 pub fn solve(size: usize, rows: &[u8], columns: &[u8], marks: &[u8], cells: &mut [u8]) -> Solved
-    ensures { λ r. ⌜ SolveGiven (puzzle size (now (rows .entry)) (now (columns .entry))) (marksOf (now (marks .entry)))
-        r (now (cells .entry)) (now (cells .exit)) ⌝ }
+    ensures { λ r. ⌜ (r ≡ solveAnswer (puzzle size (now (rows .entry)) (now (columns .entry))) (marksOf (now (marks .entry))) (length (now (cells .entry))))
+        × SolveWritten (puzzle size (now (rows .entry)) (now (columns .entry))) (marksOf (now (marks .entry))) (now (cells .entry)) (now (cells .exit)) ⌝ }
 {
     let k = solve_refusal(size, rows, columns, marks, cells.len());
     if k != 0 {

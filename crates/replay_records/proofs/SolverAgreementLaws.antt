@@ -9,8 +9,8 @@ use lib.ListN.{length, take}
 use borrow.Author.Tests.{eq-eqb, eqb-true, not-true, not-false}
 use Rattle.rules.specs.Mark.{marksOf}
 use Rattle.rules.specs.Grid.{puzzle}
-use Rattle.engine.specs.Answer.{countAnswer}
-use Rattle.doppelblock.specs.Number.{countOut, SolveNumbered, TableNumbered}
+use Rattle.engine.specs.Answer.{countAnswer, solveAnswer, SolveWritten}
+use Rattle.doppelblock.specs.Number.{countOut, solveNumber, TableNumbered}
 use Rattle.replay_records.specs.Fields.{field, recordSize, numberFrom}
 use Rattle.replay_records.specs.Agreement.{Says}
 use Rattle.replay_records.proofs.AgreementLaws.{says-no, says-refuted, says-also}
@@ -86,7 +86,9 @@ module _ (xs : List ℕ) where
     table-called g = record { number = number; after = after; promised = rw (s, r, c, m) at g; says = h }
 
     -- Solve was called on the record's puzzle and marks.
-    pub cells-called : SolveNumbered (puzzle size rows columns) (marksOf marks) number content after → CellsFrom content b xs
+    pub cells-called :
+        (number ≡ solveNumber (solveAnswer (puzzle size rows columns) (marksOf marks) (length content)))
+        × SolveWritten (puzzle size rows columns) (marksOf marks) content after → CellsFrom content b xs
     cells-called g = record { number = number; after = after; promised = rw (s, r, c, m) at g; says = h }
 
   module _ (Promised : List ℕ → ℕ → List ℕ → Type 0) (content : List ℕ) (is-content : content ≡ field xs 4) where

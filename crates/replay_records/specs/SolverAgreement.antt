@@ -8,8 +8,8 @@ use lib.ListN.{length}
 use Rattle.rules.specs.Grid.{Puzzle, puzzle}
 use Rattle.rules.specs.Mark.{marksOf}
 use Rattle.engine.specs.declared.Counted.{Counted}
-use Rattle.engine.specs.Answer.{countAnswer}
-use Rattle.doppelblock.specs.Number.{countOut, SolveNumbered, TableNumbered}
+use Rattle.engine.specs.Answer.{countAnswer, solveAnswer, SolveWritten}
+use Rattle.doppelblock.specs.Number.{countOut, solveNumber, TableNumbered}
 use Rattle.replay_records.specs.Fields.{field, recordSize, numberFrom}
 use Rattle.replay_records.specs.Agreement.{Says}
 
@@ -79,7 +79,8 @@ TableFound r xs = FittingCompared r (TablePromised xs (field xs 4)) xs
 
 -- What Solve promises of its number and of the cells, before and afterwards.
 abbrev pub CellsPromised : List ℕ → List ℕ → ℕ → List ℕ → Type 0
-CellsPromised xs cells number after = SolveNumbered (recordPuzzle xs) (marksIn xs) number cells after
+CellsPromised xs cells number after =
+    (number ≡ solveNumber (solveAnswer (recordPuzzle xs) (marksIn xs) (length cells))) × SolveWritten (recordPuzzle xs) (marksIn xs) cells after
 
 -- What a test of the call says, where the cells hold these bytes to begin with.
 abbrev pub CellsFrom : List ℕ → Bool → List ℕ → Type 0

@@ -1,7 +1,7 @@
 -- The text of an answer of Solve is that of the puzzle. Assumes nothing.
 use Prim.Native.Nat.{ℕ, zero, suc, _-_, _*_, _≤_, _<_}
 use mathlib.Core.Path.{_≡_, refl, sym, ap, subst, _∙_}
-use mathlib.Core.Bool.{true, false, true≢false}
+use mathlib.Core.Bool.{true, true≢false}
 use mathlib.Core.List.{List, [], List·Memᴰ, List·Memᴰ·head, List·Memᴰ·tail}
 use native.Mathlib.Omega.{arith}
 use lib.ListN.{length, take, drop, length-take, length-drop}
@@ -14,11 +14,11 @@ use Rattle.rules.specs.Grid.{digits, Puzzle, puzzle}
 use Rattle.rules.specs.Mark.{marksOf}
 use Rattle.rules.proofs.GridLaws.{solution-way}
 use Rattle.rules.specs.Check.{refusal, puzzleChecks, countChecks, solveChecks}
-use Rattle.rules.specs.Number.{number, Verdict, unsolvable, unique, multiple, verdictOf, Solution}
+use Rattle.rules.specs.Number.{number, verdictOf, Solution}
 use Rattle.rules.specs.Short.{symbols}
 use Rattle.rules.proofs.SizeLaws.{size-in}
 use Rattle.engine.specs.declared.Solved.{Solved}
-use Rattle.engine.specs.Answer.{solvedAs, SolveGiven}
+use Rattle.engine.specs.Answer.{solvedAs, solveAnswer, SolveWritten}
 use Rattle.text_rules.specs.Text.{answerText}
 use Rattle.text_answer.specs.Put.{Put, shown, SolvedAsk}
 use Rattle.text_line.specs.Line.{solvedText, showsGrid, AnswerAsk, SolveTargetsAsk, TargetsAsk, PuzzleText}
@@ -47,19 +47,18 @@ way-shown n h (put {c = c} m w) = and-both (cell-shown n c h m) (way-shown n h w
 
 -- ---- the answer of Solve
 
-shows : (k m : ℕ) → showsGrid (solvedAs k (verdictOf m)) ≡ true → (k ≡ 0) × (0 < m)
-unfolding verdictOf
+shows : (k m : ℕ) → showsGrid (solvedAs k m) ≡ true → (k ≡ 0) × (0 < m)
 shows (suc k) m e = absurd (true≢false (sym e))
 shows zero zero e = absurd (true≢false (sym e))
 shows zero (suc zero) e = (refl, omega arith)
 shows zero (suc (suc m)) e = (refl, omega arith)
 
-text-same : (k : ℕ) (v : Verdict) (n : ℕ) (g : List ℕ) → solvedText (solvedAs k v) n g ≡ answerText k v n g
-unfolding answerText
-text-same (suc k) v n g = refl
-text-same zero unsolvable n g = refl
-text-same zero unique n g = refl
-text-same zero multiple n g = refl
+text-same : (k m n : ℕ) (g : List ℕ) → solvedText (solvedAs k m) n g ≡ answerText k (verdictOf m) n g
+unfolding answerText verdictOf
+text-same (suc k) m n g = refl
+text-same zero zero n g = refl
+text-same zero (suc zero) n g = refl
+text-same zero (suc (suc m)) n g = refl
 
 -- with no marks and cells of the size only the puzzle is checked
 only-puzzle : (p : Puzzle) (len : ℕ) → len ≡ p .size * p .size → refusal (solveChecks p [] len) ≡ refusal (puzzleChecks p)
@@ -67,7 +66,8 @@ unfolding refusal solveChecks countChecks join
 only-puzzle p len e = rw (eq-eqb len (p .size * p .size) e)
 
 module _ {n : ℕ} {ts : List ℕ} {room : ℕ} {answer : Solved} {cells cells′ : List ℕ} (a : SolveTargetsAsk n ts (length cells) room)
-    (s : SolveGiven (puzzle n (take n ts) (take (length ts - n) (drop n ts))) (marksOf []) answer cells cells′) (long : length cells′ ≡ length cells) where
+    (s : (answer ≡ solveAnswer (puzzle n (take n ts) (take (length ts - n) (drop n ts))) (marksOf []) (length cells))
+    × SolveWritten (puzzle n (take n ts) (take (length ts - n) (drop n ts))) (marksOf []) cells cells′) (long : length cells′ ≡ length cells) where
   abbrev p : Puzzle
   p = puzzle n (take n ts) (take (length ts - n) (drop n ts))
 
@@ -77,13 +77,13 @@ module _ {n : ℕ} {ts : List ℕ} {room : ℕ} {answer : Solved} {cells cells�
   accepted : refusal (solveChecks p [] (length cells)) ≡ refusal (puzzleChecks p)
   accepted = only-puzzle p (length cells) (a .square)
 
-  is : answer ≡ solvedAs (refusal (puzzleChecks p)) (verdictOf (number p []))
+  is : answer ≡ solvedAs (refusal (puzzleChecks p)) (number p [])
   unfolding marksOf
-  is = s .answer-is ∙ ap (λ k. solvedAs k (verdictOf (number p []))) accepted
+  is = s .0 ∙ ap (λ k. solvedAs k (number p [])) accepted
 
   solution : refusal (puzzleChecks p) ≡ 0 → 0 < number p [] → Solution p [] cells′
   unfolding marksOf
-  solution e h = s .written (accepted ∙ e) h
+  solution e h = s .1 .written (accepted ∙ e) h
 
   pub solve-shown : AnswerAsk answer n cells′ room
   solve-shown =
@@ -98,7 +98,7 @@ module _ {n : ℕ} {ts : List ℕ} {room : ℕ} {answer : Solved} {cells cells�
   pub solve-text : {r : ℕ} {out l : List ℕ} → Put (solvedText answer n cells′) r out l → PuzzleText (puzzle n (take n ts) (drop n ts)) r out l
   solve-text {r} {out} {l} w =
       let e : solvedText answer n cells′ ≡ answerText (refusal (puzzleChecks p)) (verdictOf (number p [])) n cells′ =
-      ap (λ x. solvedText x n cells′) is ∙ text-same (refusal (puzzleChecks p)) (verdictOf (number p [])) n cells′ in
+      ap (λ x. solvedText x n cells′) is ∙ text-same (refusal (puzzleChecks p)) (number p []) n cells′ in
       let t : PuzzleText p r out l = record { grid = cells′; solves = solution; put = subst (λ x. Put x r out l) e w } in
       subst (λ q. PuzzleText q r out l) same t
 
