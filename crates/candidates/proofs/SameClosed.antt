@@ -6,6 +6,7 @@ use mathlib.Core.List.{List·Memᴰ}
 use Rattle.rules.specs.Grid.{digits, Line, across, down, index, Puzzle, target}
 use Rattle.rules.specs.Mark.{leftBlack, rightBlack, upperBlack, lowerBlack}
 use Rattle.table.specs.Closed.{Arrangement, Closed, ClosedLine, Supported, Live, place}
+use Rattle.rules.proofs.GridLaws.{in-line}
 use Rattle.table.specs.Table.{Table, places, firstBlack, half}
 use Rattle.table.specs.Lines.{Places, rowOf, columnOf}
 use Rattle.line_laws.proofs.Half.{digit-in, first-in, second-in}
@@ -62,7 +63,7 @@ module _ (p : Puzzle) (t u : Table) (same : (r c v : ℕ) → r < p .size → c 
       let n = p .size in
       let d : (v : ℕ) → List·Memᴰ v (digits n) → IsValue n v = λ v m. in-row v (digit-in n leftBlack m) in
       record {
-        lines = λ ℓ h. line-same n (firstBlack ℓ) (target p ℓ) (places t ℓ) (places u ℓ) (at ℓ h) (c .lines ℓ h);
+        lines = λ ℓ h. line-same n (firstBlack ℓ) (target p ℓ) (places t ℓ) (places u ℓ) (at ℓ (in-line n ℓ h)) (c .lines ℓ h);
         crossed = λ r k i v hr hk hi m e only ne. same i k v hi hk (d v m)
             ∙ c .crossed r k i v hr hk hi m (sym (same r k v hr hk (d v m)) ∙ e) (λ w q f. only w q (same r k w hr hk (in-row w q) ∙ f)) ne;
         crossedBack = λ r k j v hr hk hj m e only ne. same r j v hr hj (d v m)

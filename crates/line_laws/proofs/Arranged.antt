@@ -12,7 +12,8 @@ use borrow.Author.Tests.{eqb-true, eq-eqb, ne-eqb, lt-ltb, le-ltb, ltb-true, le-
 use Rattle.tally.specs.Tally.{sum, any, span, keep, join}
 use Rattle.tally.proofs.TallyLaws.{and-left, and-right, and-both, span-in, span-mem, any-in}
 use Rattle.rules.specs.Grid.{digits, meets}
-use Rattle.table.specs.Closed.{Arrangement, subsets, subsetsWith, fromStarts, insides, outsides, arrangements, place, allows, Live, Covers}
+use Rattle.table.specs.Closed.{Arrangement, subsets, subsetsWith, fromStarts, insides, outsides, arrangements, place, allows, Live}
+use Rattle.table.proofs.ClosedTest.{Covers}
 use Rattle.table.specs.Table.{half}
 use Rattle.table.specs.Lines.{Places}
 use Rattle.line_laws.proofs.Lists.{mem-keep, of-keep, mem-join, of-join}

@@ -11,7 +11,8 @@ use borrow.Author.Tests.{eqb-true, eq-eqb}
 use Rattle.tally.specs.Tally.{sum, any, count, keep}
 use Rattle.tally.proofs.TallyLaws.{Once, any-mem}
 use Rattle.rules.specs.Grid.{digits, lineSum, meets}
-use Rattle.table.specs.Closed.{Arrangement, arrangements, place, allows, Covers}
+use Rattle.table.specs.Closed.{Arrangement, arrangements, place, allows}
+use Rattle.table.proofs.ClosedTest.{Covers}
 use Rattle.table.specs.Table.{own}
 use Rattle.line_laws.proofs.Lists.{mem-keep, of-keep, getD-mem, count-mem}
 use Rattle.line_laws.proofs.Pigeonhole.{length-each, sum-each}

@@ -14,8 +14,7 @@ ghost use Prim.Native.Nat.{ℕ, _≤_, _<_};
 ghost use Rattle.rules.specs.Check.{maxTarget};
 ghost use Rattle.words.specs.Word.{part, Known};
 ghost use Rattle.listing.specs.Numbers.{onSide, startsFrom, sideFrom, sideOf, numbersFor};
-ghost use Rattle.listing.specs.Listing.{Raised, oneAt, digitsAt, innerTo, RaiseAsk, WordAsk, Added, AddAsk, StartsAsk};
-ghost use Rattle.listing.specs.Listing.{LinesAsk, LinesTo, OpenAsk, LinesListed};
+ghost use Rattle.listing.specs.Listing.{Raised, oneAt, digitsAt, innerTo, RaiseAsk, WordAsk, Added, AddAsk, StartsAsk, LinesAsk, LinesTo, OpenAsk, LinesListed};
 
 // One more arrangement has the value v at place p of a line.
 fn raise_support(st: &mut [u16], line: usize, p: usize, v: usize)

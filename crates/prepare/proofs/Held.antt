@@ -12,7 +12,8 @@ use Rattle.tally.proofs.TallyLaws.{and-left, and-right, any-in}
 use Rattle.rules.specs.Size.{Size}
 use Rattle.rules.specs.Grid.{Puzzle, Line, index, line, target}
 use Rattle.rules.specs.Mark.{has}
-use Rattle.table.specs.Closed.{Arrangement, arrangements, Covers}
+use Rattle.table.specs.Closed.{Arrangement, arrangements}
+use Rattle.table.proofs.ClosedTest.{Covers}
 use Rattle.table.specs.Table.{places, half, everyValue, own, fits}
 use Rattle.line_laws.proofs.Parts.{LawfulLine}
 use Rattle.line_laws.proofs.Found.{Follows, Backed, backed}

@@ -16,9 +16,8 @@ use Rattle.rules.specs.Check.{maxTarget}
 use Rattle.table.specs.Steps.{markedAll}
 use Rattle.settled.proofs.EmptyLaws.{empty-left}
 use Rattle.soundness.proofs.MarkLaws.{whole-same, marks-number, marks-kept}
-use Rattle.soundness.specs.Marks.{Whole}
+use Rattle.soundness.specs.Marks.{Whole, AcceptedMark}
 use Rattle.soundness.proofs.MarkLaws as marks
-use Rattle.soundness.specs.Marks.{AcceptedMark}
 use Rattle.slab.specs.Slab.{tableIn}
 use Rattle.fresh.specs.Fresh.{Fresh}
 use Rattle.words.specs.Word.{Words}

@@ -12,6 +12,7 @@ use borrow.Author.Tests.{eq-eqb}
 use Rattle.bits.proofs.SumLaws.{sum-same}
 use Rattle.rules.specs.Grid.{Line, across, down, index, Puzzle, target}
 use Rattle.table.specs.Closed.{arrangements, Supported, Closed}
+use Rattle.rules.proofs.GridLaws.{in-line}
 use Rattle.table.specs.Table.{places, firstBlack, half}
 use Rattle.settled.specs.EmptyCell.{Empty}
 use Rattle.soundness.proofs.SameLaws.{same-trans, same-ext}
@@ -156,7 +157,7 @@ module _ {n : ℕ} {l : List ℕ} (empty : tail l ≡ 0) (g : Lagging n l 0) whe
           let s₁ = subst (λ y. (ℓ : Line) → index ℓ < y → (i v : ℕ) → i < y → List·Memᴰ v (half y (firstBlack ℓ)) → places (tableIn l) ℓ i v ≡ true →
           Supported y (firstBlack ℓ) (target p ℓ) (places (tableIn l) ℓ) i v) (sym q) s in
           record {
-            lines = λ ℓ h. record { lone = lone a₁ ℓ h; single = single a₁ ℓ h; supported = s₁ ℓ h };
+            lines = λ ℓ k. let h = in-line (p .size) ℓ k in record { lone = lone a₁ ℓ h; single = single a₁ ℓ h; supported = s₁ ℓ h };
             crossed = crossed a₁;
             crossedBack = crossedBack a₁;
             blacks = blacks a₁;

@@ -10,7 +10,8 @@ use borrow.Author.Tests.{lt-ltb, le-ltb, eq-eqb, eqb-true}
 use Rattle.bits.specs.Sum.{sumOver}
 use Rattle.rules.specs.Size.{Size}
 use Rattle.rules.specs.Grid.{Line, across, down}
-use Rattle.table.specs.Closed.{arrangements, place, allows, Live, Covers, Supported}
+use Rattle.table.specs.Closed.{arrangements, place, allows, Live, Supported}
+use Rattle.table.proofs.ClosedTest.{Covers, covers}
 use Rattle.table.specs.Table.{places, firstBlack, half}
 use Rattle.slab.specs.Slab.{cand, lag, tableIn}
 use Rattle.slab.proofs.SlabLaws.{cand-lt}
@@ -129,7 +130,7 @@ supported n ℓ k l h t z o a w listed i v hi m e =
           arrangement = arrangementOf n id;
           listed = listed j (r .1);
           alive = alive-live n k id z y ℓ l h o w (a .alive j (r .1));
-          covers = part-covers n k id z y i v hi (one (part (blackAt k) (wordOf n id) i v) (part-lt (blackAt k) (wordOf n id) i v) (r .2));
+          covers = covers n (blackAt k) (arrangementOf n id) i v .passes (part-covers n k id z y i v hi (one (part (blackAt k) (wordOf n id) i v) (part-lt (blackAt k) (wordOf n id) i v) (r .2)));
         }
       where
         one : (x : ℕ) → x < 2 → (x ≡ 0 → ⊥) → x ≡ 1

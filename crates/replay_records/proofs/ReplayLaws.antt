@@ -15,8 +15,7 @@ use Rattle.replay_records.specs.Fields.{tag, fieldCount, fieldStart, rec
 use Rattle.replay_records.proofs.FieldLaws.{start-positive, readable-within}
 use Rattle.replay_records.specs.Agreement.{Says, SumsAgree, SheetAgrees}
 use Rattle.replay_records.specs.SolverAgreement.{TableFound, CountAgrees, CellsFound}
-use Rattle.replay_records.specs.Replay.{kind, step, FindsAs, Finds, RecordTested, Replayed, inKinds, asNumber, RecordAdded}
-use Rattle.replay_records.specs.Replay.{RecordsTallied, none, more, FirstDifference, at-end, here, later}
+use Rattle.replay_records.specs.Replay.{kind, step, FindsAs, Finds, RecordTested, Replayed, inKinds, asNumber, RecordAdded, RecordsTallied, none, more, FirstDifference, at-end, here, later}
 
 -- The call of each tag was run.
 module _ (xs : List ℕ) (t : ℕ) (is-tag : t ≡ tag xs) where

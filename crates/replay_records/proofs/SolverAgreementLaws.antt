@@ -14,8 +14,7 @@ use Rattle.doppelblock.specs.Number.{countOut, solveNumber, TableNumbered}
 use Rattle.replay_records.specs.Fields.{field, recordSize, numberFrom}
 use Rattle.replay_records.specs.Agreement.{Says}
 use Rattle.replay_records.proofs.AgreementLaws.{says-no, says-refuted, says-also}
-use Rattle.replay_records.specs.SolverAgreement.{LongNumber, CountRecorded, CountFrom, CountAgrees, BufferRecorded, Compared, FittingCompared}
-use Rattle.replay_records.specs.SolverAgreement.{TablePromised, TableFrom, TableFound, CellsPromised, CellsFrom, CellsFound}
+use Rattle.replay_records.specs.SolverAgreement.{LongNumber, CountRecorded, CountFrom, CountAgrees, BufferRecorded, Compared, FittingCompared, TablePromised, TableFrom, TableFound, CellsPromised, CellsFrom, CellsFound}
 
 -- ---- Count
 

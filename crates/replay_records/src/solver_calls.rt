@@ -9,8 +9,7 @@ use crate::fields::number;
 ghost use Prim.Native.Nat.{_<_};
 ghost use Rattle.replay_records.specs.Fields.{field as Fields·field};
 ghost use Rattle.replay_records.specs.Agreement.{Says};
-ghost use Rattle.replay_records.specs.SolverAgreement.{LongNumber, CountRecorded, CountFrom, CountAgrees};
-ghost use Rattle.replay_records.specs.SolverAgreement.{BufferRecorded, TableFrom, TableFound, CellsFrom, CellsFound};
+ghost use Rattle.replay_records.specs.SolverAgreement.{LongNumber, CountRecorded, CountFrom, CountAgrees, BufferRecorded, TableFrom, TableFound, CellsFrom, CellsFound};
 
 // Whether a number and a buffer are as recorded.
 fn buffer_recorded(list: &[u8], number: u8, content: &[u8]) -> bool

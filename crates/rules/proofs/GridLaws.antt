@@ -1,14 +1,15 @@
 -- The lines of a grid as a list: each is in it, and a test of all of them is a test of the rows and of the columns. Assumes nothing.
 use Prim.Native.Nat.{ℕ, zero, suc, _+_, _*_, _<_}
-use mathlib.Core.Path.{_≡_, ap₂, _∙_, subst}
+use mathlib.Core.Path.{_≡_, ap₂, _∙_, subst, sym}
+use mathlib.Core.Logic.{⊎-elim}
 use mathlib.Core.Bool.{Bool, true, _&&_}
-use mathlib.Core.List.{List, map, List·Memᴰ, Memᴰ·append-left, Memᴰ·append-right, Memᴰ·map}
+use mathlib.Core.List.{List, map, List·Memᴰ, List·Memᴰ·append-cases, Memᴰ·append-left, Memᴰ·append-right, Memᴰ·map}
 use native.Mathlib.Omega.{arith}
 use native.Mathlib.Nat.{mul-le-mul-right}
 use Rattle.tally.specs.Tally.{span, all}
 use Rattle.tally.specs.Way.{Way}
 use Rattle.tally.proofs.TallyLaws.{all-append, span-in, span-mem, span-length}
-use Rattle.tally.proofs.WayLaws.{all-each, all-of-map, way-cell, way-map, way-in, in-way}
+use Rattle.tally.proofs.WayLaws.{of-map, all-each, all-of-map, way-cell, way-map, way-in, in-way}
 use Rattle.rules.specs.Grid.{keepsLine, Line, across, down, index, line, lines, row, column, cell, Puzzle, target, keeps}
 use Rattle.rules.specs.Number.{grids, solves, Solution}
 use Rattle.rules.specs.Short.{symbols}
@@ -25,6 +26,15 @@ pub line-in : (n : ℕ) (ℓ : Line) → index ℓ < n → List·Memᴰ ℓ (lin
 unfolding lines index
 line-in n (across r) h = Memᴰ·append-left (map down (span 0 n)) (Memᴰ·map across (span-mem 0 n r (omega arith) (omega arith)))
 line-in n (down c) h = Memᴰ·append-right (map across (span 0 n)) (Memᴰ·map down (span-mem 0 n c (omega arith) (omega arith)))
+
+-- and what is in the list is a line of the grid
+pub in-line : (n : ℕ) (ℓ : Line) → List·Memᴰ ℓ (lines n) → index ℓ < n
+unfolding lines index
+in-line n ℓ m =
+    ⊎-elim
+    (λ k. let q = of-map across (span 0 n) k in subst (λ x. index x < n) (sym (q .2)) (omega (arith, span-in 0 n (q .0) (q .1))))
+    (λ k. let q = of-map down (span 0 n) k in subst (λ x. index x < n) (sym (q .2)) (omega (arith, span-in 0 n (q .0) (q .1))))
+    (List·Memᴰ·append-cases (map across (span 0 n)) m)
 
 pub all-lines : (q : Line → Bool) (n : ℕ) → all q (lines n) ≡ (all (λ r. q (across r)) (span 0 n) && all (λ c. q (down c)) (span 0 n))
 unfolding lines

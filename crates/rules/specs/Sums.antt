@@ -8,8 +8,7 @@ use Rattle.rules.specs.Check.{refusal, checkLine, sumsChecks}
 use mathlib.Core.Bool.{Bool, _&&_}
 use lib.Dec.{eqb}
 
--- The answer of a refusal number, 0 or that of a refusal, and what the two target slices hold: as they were on a refusal, else the sums of the rows
--- and of the columns.
+-- A refusal number, and both target slices afterwards: as they were if it is not 0, else they hold the sums of the rows and of the columns.
 abbrev pub summedAs : ℕ → ℕ → List ℕ → List ℕ → List ℕ → ℕ × List ℕ × List ℕ
 summedAs (suc k) n cells rows columns = (suc k, rows, columns)
 summedAs zero n cells rows columns = (0, map (λ r. lineSum (row n cells r)) (span 0 n), map (λ c. lineSum (column n cells c)) (span 0 n))

@@ -13,10 +13,11 @@ use Rattle.tally.specs.Tally.{oneIf, sum, count, span}
 use Rattle.tally.proofs.TallyLaws.{test-ext, count-map, count-ext, sum-bits, span-in, span-mem, or-split}
 use Rattle.tally.proofs.WayLaws.{way-length}
 use Rattle.rules.specs.Grid.{isBlack, digits, Puzzle, across, down, index, line, target, cell, row, column}
-use Rattle.rules.proofs.GridLaws.{line-way}
+use Rattle.rules.proofs.GridLaws.{line-way, line-in}
 use Rattle.rules.specs.Mark.{leftBlack, rightBlack, upperBlack, lowerBlack}
 use Rattle.rules.specs.Short.{symbols}
 use Rattle.number.specs.VerdictLaws.{symbols-once}
+use Rattle.table.proofs.ClosedTest.{covers}
 use Rattle.table.specs.Table.{Table, places, firstBlack, half, everyValue}
 use Rattle.table.specs.Closed.{Supported, Closed}
 use Rattle.table.specs.Reading.{choices, readOff, AllSettled}
@@ -164,7 +165,7 @@ module _ (p : Puzzle) (t : Table) (z : p .size ≤ 9) (cl : Closed p t)
   sup : (r c b : ℕ) → r < p .size → c < p .size → List·Memᴰ b (half (p .size) upperBlack) → t r c b ≡ true →
       Supported (p .size) upperBlack (target p (down c)) (places t (down c)) r b
   unfolding index firstBlack places
-  sup r c b h k m e = cl .lines (down c) k .supported r b h m e
+  sup r c b h k m e = cl .lines (down c) (line-in (p .size) (down c) k) .supported r b h m e
 
   -- a cell has not both column blacks: behind the upper one stands a lower one, and in front of the lower one an upper one
   not-both : (r c : ℕ) → r < p .size → c < p .size → t r c upperBlack ≡ true → t r c lowerBlack ≡ true → ⊥
@@ -174,8 +175,8 @@ module _ (p : Puzzle) (t : Table) (z : p .size ≤ 9) (cl : Closed p t)
       let y = sup r c lowerBlack h k (second-in (p .size) upperBlack) b in
       let wx = arranged (p .size) (target p (down c)) (x .arrangement) (x .listed) in
       let wy = arranged (p .size) (target p (down c)) (y .arrangement) (y .listed) in
-      let ex = covers-first (p .size) (target p (down c)) (x .arrangement) wx upperBlack r (omega arith) z (x .covers) in
-      let ey = covers-second (p .size) (target p (down c)) (y .arrangement) wy upperBlack r (omega arith) z (y .covers) in
+      let ex = covers-first (p .size) (target p (down c)) (x .arrangement) wx upperBlack r (omega arith) z (covers (p .size) upperBlack (x .arrangement) r upperBlack .holds (x .covers)) in
+      let ey = covers-second (p .size) (target p (down c)) (y .arrangement) wy upperBlack r (omega arith) z (covers (p .size) upperBlack (y .arrangement) r lowerBlack .holds (y .covers)) in
       let last = step-lt (p .size) (target p (down c)) (x .arrangement) wx (secondStep (x .arrangement)) (second-within (x .arrangement)) in
       let front = step-lt (p .size) (target p (down c)) (y .arrangement) wy (firstStep (y .arrangement)) (first-within (y .arrangement)) in
       not-three c _ r _ k (omega (arith, ey, first-second (p .size) (target p (down c)) (y .arrangement) wy))

@@ -8,6 +8,7 @@ use Rattle.tally.proofs.TallyLaws.{span-in}
 use Rattle.tally.specs.Tally.{span}
 use Rattle.rules.specs.Grid.{keepsLine, Puzzle, Line, across, down, index, line, target, keeps}
 use Rattle.rules.specs.Mark.{leftBlack}
+use Rattle.rules.proofs.GridLaws.{line-in}
 use Rattle.table.specs.Table.{Table, places, firstBlack, half, fits, left}
 use Rattle.table.specs.Closed.{Closed}
 use Rattle.table.specs.Reading.{choices, readOff, AllSettled}
@@ -40,24 +41,24 @@ module _ (p : Puzzle) (t : Table) (z : p .size ≤ 9) (cl : Closed p t) (ℓ : L
       read-value (p .size) (firstBlack ℓ) (places t ℓ i) z (first-high ℓ) (settledValue (p .size) t ℓ i) (place-settled i (omega arith)))
 
   pub line-size : 2 ≤ p .size
-  line-size = closed-size (p .size) (firstBlack ℓ) (target p ℓ) (places t ℓ) z (omega arith) (first-high ℓ) (cl .lines ℓ h) (settledValue (p .size) t ℓ) place-settled
+  line-size = closed-size (p .size) (firstBlack ℓ) (target p ℓ) (places t ℓ) z (omega arith) (first-high ℓ) (cl .lines ℓ (line-in (p .size) ℓ h)) (settledValue (p .size) t ℓ) place-settled
 
   -- It reads off as a lawful line that keeps its target, with the values of its places.
   pub read-lawful : LawfulLine (p .size) (line (p .size) (readOff (p .size) t) ℓ)
   read-lawful =
-      rw read-line (closed-lawful (p .size) (firstBlack ℓ) (target p ℓ) (places t ℓ) z (omega arith) (first-high ℓ) (cl .lines ℓ h)
+      rw read-line (closed-lawful (p .size) (firstBlack ℓ) (target p ℓ) (places t ℓ) z (omega arith) (first-high ℓ) (cl .lines ℓ (line-in (p .size) ℓ h))
       (settledValue (p .size) t ℓ) place-settled)
 
   pub read-keeps-line : keepsLine (p .size) (target p ℓ) (line (p .size) (readOff (p .size) t) ℓ) ≡ true
   read-keeps-line =
-      rw read-line (closed-keeps (p .size) (firstBlack ℓ) (target p ℓ) (places t ℓ) z (omega arith) (first-high ℓ) (cl .lines ℓ h)
+      rw read-line (closed-keeps (p .size) (firstBlack ℓ) (target p ℓ) (places t ℓ) z (omega arith) (first-high ℓ) (cl .lines ℓ (line-in (p .size) ℓ h))
       (settledValue (p .size) t ℓ) place-settled)
 
   pub read-fits-line : FitsLine (p .size) (firstBlack ℓ) (places t ℓ) (line (p .size) (readOff (p .size) t) ℓ)
   read-fits-line i k =
       rw (
         read-line,
-        closed-own (p .size) (firstBlack ℓ) (target p ℓ) (places t ℓ) z (omega arith) (first-high ℓ) (cl .lines ℓ h) (settledValue (p .size) t ℓ) place-settled i k,
+        closed-own (p .size) (firstBlack ℓ) (target p ℓ) (places t ℓ) z (omega arith) (first-high ℓ) (cl .lines ℓ (line-in (p .size) ℓ h)) (settledValue (p .size) t ℓ) place-settled i k,
       )
       (place-settled i k .kept)
 

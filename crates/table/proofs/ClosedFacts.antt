@@ -5,10 +5,10 @@ use mathlib.Core.List.{List, [], _∷_}
 use Rattle.tally.specs.Tally.{span, sum, all, any, keep, join}
 use Rattle.rules.specs.Grid.{digits, meets, across, cell, lines, Puzzle, target}
 use Rattle.rules.specs.Mark.{leftBlack, rightBlack}
-use Rattle.table.specs.Closed.{Arrangement, subsets, subsetsWith, fromStarts, insides, outsides, arrangements, place, allows, Live, Closed}
+use Rattle.table.specs.Closed.{Arrangement, subsets, subsetsWith, fromStarts, insides, outsides, arrangements, place, allows, Live, Closed, lays}
 use Rattle.rules.proofs.Samples.{three}
 use Rattle.table.specs.Table.{Table, places, firstBlack, half, bitOf, hasBit, tableOf}
-use Rattle.table.specs.Steps.{struck, lays}
+use Rattle.table.specs.Steps.{struck}
 use Rattle.table.proofs.Decides.{refuted}
 use Rattle.table.proofs.ClosedTest.{liveTest, supportedTest, soleTest, everyTest, crossHalf, loneTest, crossedTest, singleTest, blacksTest, supportsTest, points, closedTest, live, closed}
 

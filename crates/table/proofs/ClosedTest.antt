@@ -12,11 +12,11 @@ use borrow.Author.Tests.{eqb-true}
 use Rattle.tally.specs.Tally.{span, all, any}
 use Rattle.tally.proofs.TallyLaws.{span-in, span-mem}
 use Rattle.rules.specs.Grid.{digits, Line, across, down, index, lines, Puzzle, target}
+use Rattle.rules.proofs.GridLaws.{line-in, in-line}
 use Rattle.rules.specs.Mark.{leftBlack, rightBlack, upperBlack, lowerBlack}
-use Rattle.table.specs.Closed.{Arrangement, arrangements, place, allows, Live, Covers, Supported, Closed}
+use Rattle.table.specs.Closed.{Arrangement, arrangements, place, allows, Live, Supported, Closed, lays}
 use Rattle.table.specs.Table.{Table, places, firstBlack, half}
 use Rattle.table.specs.Lines.{Places}
-use Rattle.table.specs.Steps.{lays}
 use Rattle.table.proofs.Decides.{Decides, implies, restate, is, equal, agree, both, if-then, each, some, each-below, each-line}
 
 -- ---- live arrangements
@@ -55,6 +55,13 @@ live n k m a =
     (some (λ v. both (is (m (place n a j) v)) (is (allows k a j v))) (k ∷ suc k ∷ a .digitSet))) (length (a .digitSet) + 2) in
     record { passes = λ w. cells .passes (λ j h. w .live j h); holds = λ t. record { live = λ j h. cells .holds t j h } }
 
+-- A step of the arrangement lies at place i, and its pattern allows the value v there.
+pub record Covers (n k : ℕ) (a : Arrangement) (i v : ℕ) : Type 0 where
+  pub step : ℕ
+  pub within : step < length (a .digitSet) + 2
+  pub there : place n a step ≡ i
+  pub allowed : allows k a step v ≡ true
+
 -- The test of what an arrangement has at a place says what `Covers` says.
 pub covers : (n k : ℕ) (a : Arrangement) (i v : ℕ) → Decides (lays n k i v a) (Covers n k a i v)
 unfolding lays
@@ -68,7 +75,7 @@ pub supported : (n k t : ℕ) (m : Places) (i v : ℕ) → Decides (supportedTes
 unfolding supportedTest
 supported n k t m i v =
     restate (λ s. (s .arrangement, s .listed, (s .alive, s .covers))) (λ w. record { arrangement = w .0; listed = w .1; alive = w .2 .0; covers = w .2 .1 })
-    (some (λ a. both (live n k m a) (covers n k a i v)) (arrangements n t))
+    (some (λ a. both (live n k m a) (is (lays n k i v a))) (arrangements n t))
 
 -- ---- closed tables
 
@@ -165,17 +172,17 @@ module _ (p : Puzzle) (t : Table) where
       let n = p .size in
       restate
       (λ c. (
-        λ ℓ l i hi v m e only j hj. only-there (λ ne. c .lines ℓ l .lone i j v hi hj (λ q. ne (sym q)) m e only),
+        λ ℓ l i hi v m e only j hj. only-there (λ ne. c .lines ℓ (line-in n ℓ l) .lone i j v hi hj (λ q. ne (sym q)) m e only),
         (
           crossing c,
           (
-            λ ℓ l i hi v m e only w q. c .lines ℓ l .single i v w hi m q e only,
-            (λ r hr k. c .blacks r k hr, (λ ℓ l i hi v m e. c .lines ℓ l .supported i v hi m e, refl)),
+            λ ℓ l i hi v m e only w q. c .lines ℓ (line-in n ℓ l) .single i v w hi m q e only,
+            (λ r hr k. c .blacks r k hr, (λ ℓ l i hi v m e. c .lines ℓ (line-in n ℓ l) .supported i v hi m e, refl)),
           ),
         ),
       ))
       (λ h. record {
-        lines = λ ℓ l. record {
+        lines = λ ℓ q. let l = in-line n ℓ q in record {
           lone = λ i j v hi hj ne m e only. not-else (places t ℓ j v) (h .0 ℓ l i hi v m e only j hj) (λ q. ne (sym q));
           single = λ i v w hi m q e only. h .1 .1 .0 ℓ l i hi v m e only w q;
           supported = λ i v hi. h .1 .1 .1 .1 .0 ℓ l i hi v;

@@ -10,10 +10,10 @@ use Rattle.rules.specs.Grid.{digits, lawful, untilBlack, inside, lineSum, meets
 use Rattle.rules.specs.Mark.{rejects}
 use Rattle.rules.specs.Number.{grids}
 use Rattle.rules.specs.Short.{symbols}
-use Rattle.table.specs.Closed.{subsets, subsetsWith, fromStarts, insides, outsides, arrangements, place, allows}
+use Rattle.table.specs.Closed.{subsets, subsetsWith, fromStarts, insides, outsides, arrangements, place, allows, lays}
 use Rattle.rules.proofs.Samples.{three}
 use Rattle.table.specs.Table.{Table, places, firstBlack, half, everyValue, own, fits, left, bitOf, hasBit, tableOf}
-use Rattle.table.specs.Steps.{struck, strikes, taken, marked, markedAll, lays, lies, opening}
+use Rattle.table.specs.Steps.{struck, strikes, taken, marked, markedAll, lies, opening}
 use Rattle.table.specs.Reading.{first, readCell, readOff}
 
 -- which of the values 1, 8, 9, 10 and 11 each cell of a table of size 3 has

@@ -7,7 +7,7 @@ use mathlib.Core.List.{List, [], _∷_, _++_, map, List·Memᴰ}
 use lib.Dec.{eqb, ltb, leb}
 use lib.ListN.{length}
 use Rattle.tally.specs.Tally.{span, sum, keep, any, join}
-use Rattle.rules.specs.Grid.{digits, meets, Line, index, Puzzle, target}
+use Rattle.rules.specs.Grid.{digits, meets, Line, lines, Puzzle, target}
 use Rattle.rules.specs.Mark.{leftBlack, rightBlack, upperBlack, lowerBlack}
 use Rattle.table.specs.Table.{Table, places, firstBlack, half}
 
@@ -62,19 +62,16 @@ allows k a j v =
 pub record Live (n k : ℕ) (m : ℕ → ℕ → Bool) (a : Arrangement) : Type 0 where
   pub live : (j : ℕ) → j < length (a .digitSet) + 2 → (v : ℕ) × (m (place n a j) v ≡ true) × (allows k a j v ≡ true)
 
--- The value v of place i lies in it.
-pub record Covers (n k : ℕ) (a : Arrangement) (i v : ℕ) : Type 0 where
-  pub step : ℕ
-  pub within : step < length (a .digitSet) + 2
-  pub there : place n a step ≡ i
-  pub allowed : allows k a step v ≡ true
+-- The arrangement has the value v at place i.
+unfoldable pub lays : ℕ → ℕ → ℕ → ℕ → Arrangement → Bool
+lays n k i v a = any (λ j. eqb (place n a j) i && allows k a j v) (span 0 (length (a .digitSet) + 2))
 
 -- The value v of place i lies in a live arrangement of the line.
 pub record Supported (n k t : ℕ) (m : ℕ → ℕ → Bool) (i v : ℕ) : Type 0 where
   pub arrangement : Arrangement
   pub listed : List·Memᴰ arrangement (arrangements n t)
   pub alive : Live n k m arrangement
-  pub covers : Covers n k arrangement i v
+  pub covers : lays n k i v arrangement ≡ true
 
 -- ---- closed
 
@@ -89,7 +86,7 @@ pub record ClosedLine (n k t : ℕ) (m : ℕ → ℕ → Bool) : Type 0 where
 
 -- A closed table.
 pub record Closed (p : Puzzle) (t : Table) : Type 0 where
-  pub lines : (ℓ : Line) → index ℓ < p .size → ClosedLine (p .size) (firstBlack ℓ) (target p ℓ) (places t ℓ)
+  pub lines : (ℓ : Line) → List·Memᴰ ℓ (lines (p .size)) → ClosedLine (p .size) (firstBlack ℓ) (target p ℓ) (places t ℓ)
   -- a digit alone in its row half is nowhere else in its column, and one alone in its column half nowhere else in its row
   pub crossed : (r c i d : ℕ) → r < p .size → c < p .size → i < p .size → List·Memᴰ d (digits (p .size)) → t r c d ≡ true →
       ((w : ℕ) → List·Memᴰ w (half (p .size) leftBlack) → t r c w ≡ true → w ≡ d) → i ≢ r → t i c d ≡ false

@@ -1,13 +1,12 @@
 -- Steps from one table to the next: striking a candidate, setting a cell, marks, opening. Assumes nothing.
-use Prim.Native.Nat.{ℕ, _+_}
+use Prim.Native.Nat.{ℕ}
 use mathlib.Core.Bool.{Bool, not, _&&_, _||_, cond}
 use mathlib.Core.List.{List, [], _∷_}
 use lib.Dec.{eqb, ltb, leb}
-use lib.ListN.{length}
-use Rattle.tally.specs.Tally.{span, any}
+use Rattle.tally.specs.Tally.{any}
 use Rattle.rules.specs.Grid.{Line, across, down, Puzzle, target}
 use Rattle.rules.specs.Mark.{rejects, markRow, markColumn, markValue, leftBlack, rightBlack, upperBlack, lowerBlack}
-use Rattle.table.specs.Closed.{Arrangement, arrangements, place, allows}
+use Rattle.table.specs.Closed.{arrangements, lays}
 use Rattle.table.specs.Table.{Table, firstBlack, inRow, inColumn}
 
 -- One candidate is struck.
@@ -39,10 +38,6 @@ markedAll t [] = t
 markedAll t (m ∷ ms) = markedAll (marked t m) ms
 
 -- ---- opening
-
--- The arrangement has the value v at place i.
-unfoldable pub lays : ℕ → ℕ → ℕ → ℕ → Arrangement → Bool
-lays n k i v a = any (λ j. eqb (place n a j) i && allows k a j v) (span 0 (length (a .digitSet) + 2))
 
 -- The value v of place i lies in some arrangement of the line.
 unfoldable pub lies : Puzzle → Line → ℕ → ℕ → Bool

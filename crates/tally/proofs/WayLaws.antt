@@ -53,7 +53,7 @@ module _ {A : Type 0} where
 -- ---- a way is one of the ways
 
 module _ {A : Type 0} where
-  of-map : {B : Type 0} (f : B → A) (xs : List B) {x : A} → List·Memᴰ x (map f xs) → (y : B) × List·Memᴰ y xs × (x ≡ f y)
+  pub of-map : {B : Type 0} (f : B → A) (xs : List B) {x : A} → List·Memᴰ x (map f xs) → (y : B) × List·Memᴰ y xs × (x ≡ f y)
   of-map f [] m = absurd (List·Memᴰ·not-nil m)
   of-map f (y ∷ ys) (List·Memᴰ·head e) = (y, List·Memᴰ·head refl, e)
   of-map f (y ∷ ys) (List·Memᴰ·tail m) = let r = of-map f ys m in (r .0, List·Memᴰ·tail (r .1), r .2)

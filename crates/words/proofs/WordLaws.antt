@@ -9,8 +9,7 @@ use lib.Dec.{ltb}
 use borrow.Author.Tests.{lt-ltb, le-ltb, eq-eqb, ne-eqb}
 use Rattle.bits.specs.Bit.{bit}
 use Rattle.rules.specs.Size.{Size}
-use Rattle.words.specs.Word.{maskIn, sizeIn, Known, setOf, innerOf, firstOf, secondOf, outsideOf, innerPlaces, wordFrom, wordOf}
-use Rattle.words.specs.Word.{fromOf, toOf, headOf, lastOf, steps, Shaped}
+use Rattle.words.specs.Word.{maskIn, sizeIn, Known, setOf, innerOf, firstOf, secondOf, outsideOf, innerPlaces, wordFrom, wordOf, fromOf, toOf, headOf, lastOf, steps, Shaped}
 use Rattle.words.proofs.WordFacts.{subset-fits, inner-small, inner-between, inner-start, inner-far, inner-past}
 use Rattle.words.proofs.StepLaws.{steps-on, steps-back}
 

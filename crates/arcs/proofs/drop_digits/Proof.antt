@@ -1,7 +1,6 @@
 -- `arcs::drop_digits` meets its contract. Assumes nothing.
-use borrow.Author.Needs.{fits-under}
+use borrow.Author.Needs.{fits-under, needs}
 use Rattle.arcs.proofs.DigitLaws.{Dropping, dropping-start, dropping-value, dropping-ask, dropping-enough, dropping-less, dropping-next, dropping-end}
-use borrow.Author.Needs.{needs}
 use Rattle.arcs.proofs.drop_digits.Statement.{statement}
 use Rattle.arcs.proofs.drop_digits.Tie as tie
 

@@ -1,7 +1,6 @@
-use borrow.Author.Needs.{fits-under}
+use borrow.Author.Needs.{fits-under, needs}
 -- `listing::add_digits` meets its contract. Assumes nothing.
 use Rattle.listing.proofs.RaiseLaws.{Digits, digits-start, digits-value, digits-can, digits-enough, digits-less, digits-next, digits-end}
-use borrow.Author.Needs.{needs}
 use Rattle.listing.proofs.add_digits.Statement.{statement}
 use Rattle.listing.proofs.add_digits.Tie as tie
 

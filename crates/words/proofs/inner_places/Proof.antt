@@ -1,7 +1,6 @@
 -- `words::inner_places` meets its contract. Assumes nothing.
-use borrow.Author.Needs.{fits-under}
+use borrow.Author.Needs.{fits-under, needs}
 use Rattle.words.proofs.CodeLaws.{run-enough, line-positive, inner-fits, inner-code}
-use borrow.Author.Needs.{needs}
 use Rattle.words.proofs.inner_places.Statement.{statement}
 use Rattle.words.proofs.inner_places.Tie as tie
 
