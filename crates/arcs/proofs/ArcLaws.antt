@@ -13,6 +13,8 @@ use Rattle.slab.proofs.StruckLaws.{grown-gone}
 use Rattle.slab.proofs.ReadyLaws.{ready-grown, next-grown}
 use Rattle.slab.specs.Ready.{Next}
 use Rattle.table.specs.Value.{ValueOf, HalfOf}
+use Rattle.lane.specs.declared.Lane.{Lane}
+use Rattle.lane.specs.Lanes.{rowLane, columnLane}
 use Rattle.words.specs.Word.{wordOf}
 use Rattle.words.proofs.PatternLaws.{part-other}
 use Rattle.arcs.specs.Arc.{lives, Tallied, Arc, ArcAsk, ArcDone}
@@ -33,14 +35,18 @@ black-column : (ℓ : ℕ) → 9 ≤ ℓ → blackAt ℓ ≡ 10
 unfolding blackAt
 black-column ℓ h = rw (le-ltb ℓ 9 h)
 
-row-placed : (r : ℕ) → r < 9 → Placed r (r * 9) 1
+row-placed : (r : ℕ) → r < 9 → Placed r (rowLane r)
 row-placed r h = record { within = omega arith; cells = λ p k. sym (cell-row r p h ∙ omega arith) }
 
-column-placed : (c : ℕ) → c < 9 → Placed (9 + c) c 9
+column-placed : (c : ℕ) → c < 9 → Placed (9 + c) (columnLane c)
 column-placed c h = record { within = omega arith; cells = λ p k. sym (cell-column (9 + c) p (omega arith) ∙ omega arith) }
 
+-- the handled line is that of the lane
+pub done-at : {n p v : ℕ} {l l′ : List ℕ} {lane other : Lane} → lane ≡ other → LineDone n (lane .number) p v l l′ → LineDone n (other .number) p v l l′
+done-at {n} {p} {v} {l} {l′} e d = subst (λ k. LineDone n (k .number) p v l l′) e d
+
 module _ {n : ℕ} {ws l : List ℕ} {r c v : ℕ} (a : ArcAsk n ws l r c v) where
-  narrow : v < 12
+  pub narrow : v < 12
   unfolding ValueOf
   narrow = ⊎-elim (λ h. omega (arith, h .1, a .ready .size .high)) (λ h. h .1) (a .value)
 
@@ -67,9 +73,9 @@ module _ {n : ℕ} {ws l : List ℕ} {r c v : ℕ} (a : ArcAsk n ws l r c v) whe
   column-cell : cellAt (9 + c) r ≡ r * 9 + c
   column-cell = cell-column (9 + c) r (omega arith) ∙ omega arith
 
-  pub arc-row : v < 10 → SweepAsk n r (r * 9) 1 8 c v ws l
+  pub row-ask : v < 10 → SweepAsk n r (rowLane r) c v ws l
   unfolding HalfOf
-  arc-row h =
+  row-ask h =
       record {
         ready = a .ready;
         words = a .words;
@@ -83,9 +89,9 @@ module _ {n : ℕ} {ws l : List ℕ} {r c v : ℕ} (a : ArcAsk n ws l r c v) whe
         tallied = a .tallied r row-of;
       }
 
-  pub arc-column : (v < 8) ⊎ (10 ≤ v) → SweepAsk n (9 + c) c 9 10 r v ws l
+  pub column-ask : (v < 8) ⊎ (10 ≤ v) → SweepAsk n (9 + c) (columnLane c) r v ws l
   unfolding HalfOf
-  arc-column h =
+  column-ask h =
       record {
         ready = a .ready;
         words = a .words;
@@ -98,6 +104,12 @@ module _ {n : ℕ} {ws l : List ℕ} {r c v : ℕ} (a : ArcAsk n ws l r c v) whe
         gone = ap (λ x. cand l x v) column-cell ∙ a .gone;
         tallied = a .tallied (9 + c) column-of;
       }
+
+  pub arc-row : {lane : Lane} → lane ≡ rowLane r → v < 10 → SweepAsk n (lane .number) lane c v ws l
+  arc-row e h = rw e (row-ask h)
+
+  pub arc-column : {lane : Lane} → lane ≡ columnLane c → (v < 8) ⊎ (10 ≤ v) → SweepAsk n (lane .number) lane r v ws l
+  arc-column e h = rw e (column-ask h)
 
   -- a line that is handled leaves the other one as it has to be
   pub arc-next : {l′ : List ℕ} → LineDone n r c v l l′ → ArcAsk n ws l′ r c v

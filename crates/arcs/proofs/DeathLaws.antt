@@ -14,6 +14,7 @@ use Rattle.rules.specs.Size.{Size}
 use Rattle.table.specs.Closed.{place, allows}
 use Rattle.slab.specs.Slab.{cand, Grown}
 use Rattle.slab.proofs.SlabLaws.{cand-in}
+use Rattle.lane.specs.declared.Lane.{Lane}
 use Rattle.words.specs.Word.{maskIn, sizeIn, Known, arrangementOf, wordOf, setOf, innerOf, coveredOf, fromOf, toOf, steps, pattern, part}
 use Rattle.words.proofs.WordFacts.{mask-even}
 use Rattle.words.proofs.PatternLaws.{part-yes, part-pattern, part-digit, pattern-beyond, black-alone}
@@ -31,12 +32,12 @@ use Rattle.arcs.specs.Have.{testOf, Have, Tested}
 
 -- ---- the places that have a digit
 
-module _ {line start stride : ℕ} (a : Placed line start stride) where
-  pub placed-cand : (l : List ℕ) (q v : ℕ) → q < 9 → bit v (getD l (start + q * stride) 0) ≡ cand l (cellAt line q) v
+module _ {line : ℕ} {lane : Lane} (a : Placed line lane) where
+  pub placed-cand : (l : List ℕ) (q v : ℕ) → q < 9 → bit v (getD l (lane .start + q * lane .stride) 0) ≡ cand l (cellAt line q) v
   placed-cand l q v h = ap (λ x. bit v (getD l x 0)) (a .cells q h) ∙ sym (cand-in l (cellAt line q) v (cell-in line q (a .within) h))
 
   -- the table only shrinks
-  pub have-kept : (v n have : ℕ) {l l′ : List ℕ} → v < 16 → n ≤ 9 → Grown l l′ → Have start stride v l n have → Have start stride v l′ n have
+  pub have-kept : (v n have : ℕ) {l l′ : List ℕ} → v < 16 → n ≤ 9 → Grown l l′ → Have lane v l n have → Have lane v l′ n have
   unfolding Have
   have-kept v n have {l} {l′} h k g f q b =
       omega (arith, f q b, g .sub (cellAt line q) v h, placed-cand l q v (omega arith), placed-cand l′ q v (omega arith))
@@ -98,9 +99,9 @@ module _ (n ℓ p v id : ℕ) (l : List ℕ) (z : Size n) (y : Known n id) (hp :
             low (yes a) = a
             low (no a) = absurd (omega (arith, set-high x (m .0) (omega arith), m .3))
 
-    pub tested-dead : {start stride : ℕ} → Placed ℓ start stride → Have start stride v l n have → r ≡ false → DeadArrangement n ℓ l id
+    pub tested-dead : {lane : Lane} → Placed ℓ lane → Have lane v l n have → r ≡ false → DeadArrangement n ℓ l id
     unfolding Have arrangementOf
-    tested-dead {start} {stride} a f o = ⊎-elim (λ q. nowhere q) (λ q. empty q) (t .drops o .1)
+    tested-dead {lane} a f o = ⊎-elim (λ q. nowhere q) (λ q. empty q) (t .drops o .1)
       where
         has : (bit v (setOf x) ≡ 1) × (bit p (innerOf x) ≡ 1)
         has = test-taken x v p h narrow (t .drops o .0)

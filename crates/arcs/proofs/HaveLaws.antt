@@ -11,17 +11,18 @@ use lib.ListN.{getD}
 use lib.Pow.{shl-exact}
 use Rattle.bits.specs.Bit.{bit}
 use Rattle.bits.proofs.BitLaws.{bit-lt, bit-or, bit-pow-same}
+use Rattle.lane.specs.declared.Lane.{Lane}
 use Rattle.words.specs.Word.{setOf, coveredOf}
 use Rattle.arcs.specs.Have.{HaveAsk, Have, Tested}
 
 -- a mask with all places before p
-pub record Having (n start stride v : ℕ) (l : List ℕ) (p have : ℕ) : Type 0 where
+pub record Having (n : ℕ) (lane : Lane) (v : ℕ) (l : List ℕ) (p have : ℕ) : Type 0 where
   pub upto : p ≤ n
-  pub holds : Have start stride v l p have
+  pub holds : Have lane v l p have
 
-pub having-start : (n start stride v : ℕ) (l : List ℕ) → Having n start stride v l 0 0
+pub having-start : (n : ℕ) (lane : Lane) (v : ℕ) (l : List ℕ) → Having n lane v l 0 0
 unfolding Have
-having-start n start stride v l = record { upto = omega arith; holds = λ q h. absurd (omega arith) }
+having-start n lane v l = record { upto = omega arith; holds = λ q h. absurd (omega arith) }
 
 -- one bit at place p, as the code makes it
 one-bit : (b p : ℕ) → b < 2 → p < 9 → b ≤ bit p (b * 2 ^ p % 4294967296)
@@ -35,23 +36,24 @@ one-bit b p h k =
         let f : b * 2 ^ p ≡ 2 ^ p = let o : b ≡ 1 = omega arith in rw o (omega arith) in
         rw f (omega (arith, bit-pow-same p))
 
-pub having-next : {n start stride v : ℕ} {l : List ℕ} {p have : ℕ} → HaveAsk n start stride v l → Having n start stride v l p have → p < n →
-    Having n start stride v l (p + 1) (bitOr have (getD l (start + p * stride) 0 / 2 ^ v % 2 * 2 ^ p % 4294967296))
+pub having-next : {n : ℕ} {lane : Lane} {v : ℕ} {l : List ℕ} {p have : ℕ} → HaveAsk n lane v l → Having n lane v l p have → p < n →
+    Having n lane v l (p + 1) (bitOr have (getD l (lane .start + p * lane .stride) 0 / 2 ^ v % 2 * 2 ^ p % 4294967296))
 unfolding Have bit
-having-next {n} {start} {stride} {v} {l} {p} {have} a s h = record { upto = omega arith; holds = λ q k. go q k (ℕ-discrete q p) }
+having-next {n} {lane} {v} {l} {p} {have} a s h = record { upto = omega arith; holds = λ q k. go q k (ℕ-discrete q p) }
   where
     y : ℕ
-    y = getD l (start + p * stride) 0 / 2 ^ v % 2 * 2 ^ p % 4294967296
+    y = getD l (lane .start + p * lane .stride) 0 / 2 ^ v % 2 * 2 ^ p % 4294967296
 
-    go : (q : ℕ) → q < p + 1 → Dec (q ≡ p) → bit v (getD l (start + q * stride) 0) ≤ bit q (bitOr have y)
+    go : (q : ℕ) → q < p + 1 → Dec (q ≡ p) → bit v (getD l (lane .start + q * lane .stride) 0) ≤ bit q (bitOr have y)
     go q k (yes e) =
-        let b = one-bit (bit v (getD l (start + p * stride) 0)) p (bit-lt v _) (omega (arith, a .high)) in
-        let c : bit v (getD l (start + q * stride) 0) ≡ bit v (getD l (start + p * stride) 0) = ap (λ q. bit v (getD l (start + q * stride) 0)) e in
+        let b = one-bit (bit v (getD l (lane .start + p * lane .stride) 0)) p (bit-lt v _) (omega (arith, a .high)) in
+        let c : bit v (getD l (lane .start + q * lane .stride) 0) ≡ bit v (getD l (lane .start + p * lane .stride) 0) =
+        ap (λ q. bit v (getD l (lane .start + q * lane .stride) 0)) e in
         let d : bit q y ≡ bit p y = ap (λ q. bit q y) e in
         omega (arith, bit-or q have y)
     go q k (no e) = omega (arith, s .holds q (omega arith), bit-or q have y)
 
-pub having-end : {n start stride v : ℕ} {l : List ℕ} {p have : ℕ} → Having n start stride v l p have → n ≤ p → Have start stride v l n have
+pub having-end : {n : ℕ} {lane : Lane} {v : ℕ} {l : List ℕ} {p have : ℕ} → Having n lane v l p have → n ≤ p → Have lane v l n have
 unfolding Have
 having-end s h q k = s .holds q (omega arith)
 

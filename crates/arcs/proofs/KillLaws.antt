@@ -13,6 +13,7 @@ use Rattle.bits.proofs.BitLaws.{bit-lt, bit-le}
 use Rattle.bits.specs.Sum.{same}
 use Rattle.bits.proofs.SumLaws.{same-yes, same-no}
 use Rattle.slab.proofs.StruckLaws.{grown-sized, grown-trans}
+use Rattle.lane.specs.declared.Lane.{Lane}
 use Rattle.words.specs.Word.{setOf, innerOf, fromOf, toOf, headOf, lastOf, part, steps}
 use Rattle.words.proofs.StepLaws.{steps-none, steps-zero, steps-same}
 use Rattle.words.proofs.PatternLaws.{part-lt, part-none, part-digit, pattern-head, pattern-last, pattern-inner-black, pattern-beyond, pattern-past}
@@ -50,7 +51,7 @@ last-narrow : (k w : ℕ) → k ≤ 10 → lastOf k w < 16
 unfolding lastOf
 last-narrow k w h = elim (ℕ-discrete (w / 33554432) 0) [ yes e ↦ rw (eq-eqb _ _ e) (omega arith) | no e ↦ rw (ne-eqb _ _ e) (omega arith) ]
 
-module _ {n line start stride first w : ℕ} {l : List ℕ} (a : KillAsk n line start stride first w l) where
+module _ {n line w : ℕ} {lane : Lane} {l : List ℕ} (a : KillAsk n line lane w l) where
   high : n ≤ 9
   high = a .size .high
 
@@ -61,13 +62,13 @@ module _ {n line start stride first w : ℕ} {l : List ℕ} (a : KillAsk n line 
   to-narrow = omega (arith, high, a .shaped .to-in)
 
   -- the code's sums fit
-  pub kill-black : first < 16
+  pub kill-black : lane .first < 16
   kill-black = omega (arith, a .black, black-high line)
 
-  pub kill-from : (f : ℕ) → f ≡ fromOf w → (line < 18) × (f < 9) × (start + f * stride < 81)
+  pub kill-from : (f : ℕ) → f ≡ fromOf w → (line < 18) × (f < 9) × (lane .start + f * lane .stride < 81)
   kill-from f e = (a .placed .within, omega (arith, from-narrow), placed-small (a .placed) f (omega (arith, from-narrow)))
 
-  pub kill-to : (t : ℕ) → t ≡ toOf w → (line < 18) × (t < 9) × (start + t * stride < 81)
+  pub kill-to : (t : ℕ) → t ≡ toOf w → (line < 18) × (t < 9) × (lane .start + t * lane .stride < 81)
   kill-to t e = (a .placed .within, omega (arith, to-narrow), placed-small (a .placed) t (omega (arith, to-narrow)))
 
   from-to : fromOf w ≡ toOf w → ⊥
@@ -111,7 +112,7 @@ module _ {n line start stride first w : ℕ} {l : List ℕ} (a : KillAsk n line 
       go (yes h) = omega (arith, part-digit (blackAt line) w q v h)
       go (no h) = omega (arith, set-high w v (omega arith), far (decLt q n) (decLt (steps n (fromOf w) (toOf w)) (steps n (fromOf w) q)) (omega arith))
 
-  pub kill-first : (f x m : ℕ) → f ≡ fromOf w → x ≡ start + f * stride → m ≡ headOf first w → DropAsk l (line * 9 + f) x m
+  pub kill-first : (f x m : ℕ) → f ≡ fromOf w → x ≡ lane .start + f * lane .stride → m ≡ headOf (lane .first) w → DropAsk l (line * 9 + f) x m
   kill-first f x m e g h =
       let i : f < 9 = omega (arith, from-narrow) in
       let j : m ≡ headOf (blackAt line) w = h ∙ ap (λ k. headOf k w) (a .black) in
@@ -126,7 +127,7 @@ module _ {n line start stride first w : ℕ} {l : List ℕ} (a : KillAsk n line 
       }
 
   module _ {l₁ : List ℕ} (f m : ℕ) (e : f ≡ fromOf w) (s : Sunk (single (line * 9 + f) m) l l₁) where
-    pub kill-inner : InnerAsk n line start stride w l₁
+    pub kill-inner : InnerAsk n line lane w l₁
     kill-inner =
         record {
           sized = grown-sized (s .grown) (a .sized);
@@ -151,7 +152,7 @@ module _ {n line start stride first w : ℕ} {l : List ℕ} (a : KillAsk n line 
             )
 
     module _ {l₂ : List ℕ} (g : Sunk (inners line w) l₁ l₂) where
-      pub kill-last : (t x y : ℕ) → t ≡ toOf w → x ≡ start + t * stride → y ≡ lastOf first w → DropAsk l₂ (line * 9 + t) x y
+      pub kill-last : (t x y : ℕ) → t ≡ toOf w → x ≡ lane .start + t * lane .stride → y ≡ lastOf (lane .first) w → DropAsk l₂ (line * 9 + t) x y
       kill-last t x y d h r =
           let i : t < 9 = omega (arith, to-narrow) in
           let j : y ≡ lastOf (blackAt line) w = r ∙ ap (λ k. lastOf k w) (a .black) in
@@ -175,7 +176,7 @@ module _ {n line start stride first w : ℕ} {l : List ℕ} (a : KillAsk n line 
             );
           }
 
-      pub kill-end : (t y : ℕ) {l₃ : List ℕ} → t ≡ toOf w → m ≡ headOf first w → y ≡ lastOf first w → Sunk (single (line * 9 + t) y) l₂ l₃ →
+      pub kill-end : (t y : ℕ) {l₃ : List ℕ} → t ≡ toOf w → m ≡ headOf (lane .first) w → y ≡ lastOf (lane .first) w → Sunk (single (line * 9 + t) y) l₂ l₃ →
           Sunk (parts line w) l l₃
       kill-end t y d h r z =
           sunk-as (sunk-both (sunk-both s g) z) (λ x v i j. all x v i (ℕ-discrete (x / 9) line) (ℕ-discrete (x % 9) (fromOf w)) (ℕ-discrete (x % 9) (toOf w)))

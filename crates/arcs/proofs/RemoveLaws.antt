@@ -12,6 +12,7 @@ use Rattle.live_list.proofs.SwapLaws.{exchanged-here, exchanged-other}
 use Rattle.slab.specs.Layout.{countersAt, perLine, livePlace, supportPlace, slabSize}
 use Rattle.slab.specs.Slab.{cand, Grown}
 use Rattle.slab.proofs.StruckLaws.{grown-trans, grown-sized, grown-gone, set-cand, set-grown}
+use Rattle.lane.specs.declared.Lane.{Lane}
 use Rattle.words.specs.Word.{Known, wordOf, part}
 use Rattle.words.proofs.PatternLaws.{part-lt}
 use Rattle.words.proofs.WordLaws.{known-shaped}
@@ -24,7 +25,7 @@ use Rattle.arcs.specs.Kill.{parts, KillAsk}
 use Rattle.arcs.proofs.LineLaws.{line-in, part-half, part-place, sum-drop}
 use Rattle.arcs.specs.Sweep.{RemoveAsk, UnsupportedIn, LineMoved, Removed}
 
-module _ {n ℓ start stride first i len w : ℕ} {l : List ℕ} (a : RemoveAsk n ℓ start stride first i len w l) where
+module _ {n ℓ i len w : ℕ} {lane : Lane} {l : List ℕ} (a : RemoveAsk n ℓ lane i len w l) where
   -- the code's indices
   pub remove-bounds : (ℓ < 18) × (len < perLine) × (length l ≡ slabSize)
   remove-bounds = (line-in (a .ready .size) (a .of), omega (arith, a .tallied .room), a .ready .sized .size)
@@ -84,7 +85,7 @@ module _ {n ℓ start stride first i len w : ℕ} {l : List ℕ} (a : RemoveAsk 
   unfolding f
   leaves p v = ap (λ x. part (blackAt ℓ) x p v) (a .word)
 
-  kills : KillAsk n ℓ start stride first w l₁
+  kills : KillAsk n ℓ lane w l₁
   kills =
       record {
         sized = grown-sized grown₁ (a .ready .sized);
@@ -102,9 +103,9 @@ module _ {n ℓ start stride first i len w : ℕ} {l : List ℕ} (a : RemoveAsk 
         );
       }
 
-  pub remove-kill : {l₂ : List ℕ} → l₂ ≡ exchanged l (livePlace ℓ i) (livePlace ℓ len) → KillAsk n ℓ start stride first w l₂
+  pub remove-kill : {l₂ : List ℕ} → l₂ ≡ exchanged l (livePlace ℓ i) (livePlace ℓ len) → KillAsk n ℓ lane w l₂
   unfolding l₁ here last
-  remove-kill e = subst (KillAsk n ℓ start stride first w) (sym e) kills
+  remove-kill e = subst (KillAsk n ℓ lane w) (sym e) kills
 
   module _ {l₂ l′ : List ℕ} (left : l₂ ≡ exchanged l (livePlace ℓ i) (livePlace ℓ len)) (killed : Sunk (parts ℓ w) l₂ l′) where
     s : Sunk (parts ℓ w) l₁ l′

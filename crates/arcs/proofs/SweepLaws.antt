@@ -14,6 +14,7 @@ use Rattle.slab.specs.Slab.{cand, Sized, Grown}
 use Rattle.slab.proofs.StruckLaws.{grown-refl, grown-trans, set-cand, set-grown}
 use Rattle.slab.proofs.ReadyLaws.{ready-grown, next-grown}
 use Rattle.slab.specs.Ready.{Ready, Next}
+use Rattle.lane.specs.declared.Lane.{Lane}
 use Rattle.words.specs.Word.{Known, wordOf, part}
 use Rattle.arcs.specs.Arc.{lives, live, support, Tallied, Alive, DeadArrangement, Listed, Fewer, Older, Held, Holding}
 use Rattle.table.specs.Lines.{cellAt, blackAt}
@@ -21,7 +22,7 @@ use Rattle.arcs.proofs.LineLaws.{line-in, dead-kept, sum-each}
 use Rattle.arcs.proofs.AliveLaws.{cell-once, alive-kept, alive-next, tallied-same, within-refl, within-trans, holding-drop}
 use Rattle.arcs.specs.Sweep.{RemoveAsk, Removed, Outlives, untouched, Aging, AllAlive, SweepAsk, Sweeping, Swept, LineDone}
 
-module _ {n ℓ start stride first p v : ℕ} {ws l₀ : List ℕ} (a : SweepAsk n ℓ start stride first p v ws l₀) where
+module _ {n ℓ p v : ℕ} {lane : Lane} {ws l₀ : List ℕ} (a : SweepAsk n ℓ lane p v ws l₀) where
   z : Size n
   z = a .ready .size
 
@@ -79,7 +80,7 @@ module _ {n ℓ start stride first p v : ℕ} {ws l₀ : List ℕ} (a : SweepAsk
               subst (λ j. Alive n ℓ l (h + 1) (live l ℓ j)) (sym d)
               (alive-next (next h x) (a .narrow) (λ q hq e. subst (λ q. Outlives n ℓ l q v (live l ℓ i)) (cell-once ℓ p q e) k) (g .todo i (omega arith) b))
 
-      pub sweep-ask : (m w : ℕ) → m ≡ len - 1 → w ≡ wordOf n (live l ℓ i) → RemoveAsk n ℓ start stride first i m w l
+      pub sweep-ask : (m w : ℕ) → m ≡ len - 1 → w ≡ wordOf n (live l ℓ i) → RemoveAsk n ℓ lane i m w l
       sweep-ask m w e f =
           let q : len ≡ m + 1 = omega arith in
           record {

@@ -11,6 +11,7 @@ use borrow.Author.Tests.{eq-eqb, ne-eqb}
 use Rattle.bits.specs.Sum.{same}
 use Rattle.bits.proofs.SumLaws.{same-yes, same-no}
 use Rattle.slab.proofs.StruckLaws.{grown-gone}
+use Rattle.lane.specs.declared.Lane.{Lane}
 use Rattle.words.specs.Word.{wordOf, part}
 use Rattle.slab.specs.Layout.{perLine, slabSize}
 use Rattle.arcs.specs.Arc.{live}
@@ -38,14 +39,14 @@ pub shift-small : (k v s : ℕ) → s ≡ shiftOf k v → s < 32
 shift-small k v s e =
     elim (ℕ-discrete v k) [ yes q ↦ omega (arith, shift-first k v q) | no q ↦ omega (arith, shift-second k v q) ]
 
-module _ {n ℓ start stride first p v : ℕ} {ws l₀ : List ℕ} (a : SweepAsk n ℓ start stride first p v ws l₀) where
-  pub sweep-cell : start + p * stride ≡ cellAt ℓ p
+module _ {n ℓ p v : ℕ} {lane : Lane} {ws l₀ : List ℕ} (a : SweepAsk n ℓ lane p v ws l₀) where
+  pub sweep-cell : lane .start + p * lane .stride ≡ cellAt ℓ p
   sweep-cell = a .placed .cells p (sweep-place a)
 
-  pub sweep-small : start + p * stride < 81
+  pub sweep-small : lane .start + p * lane .stride < 81
   sweep-small = placed-small (a .placed) p (sweep-place a)
 
-  pub sweep-first : HaveAsk n start stride v l₀
+  pub sweep-first : HaveAsk n lane v l₀
   sweep-first =
       record { size = a .ready .sized .size; high = a .ready .size .high; narrow = a .narrow; cells = λ q h. placed-small (a .placed) q h }
 
@@ -58,7 +59,7 @@ module _ {n ℓ start stride first p v : ℕ} {ws l₀ : List ℕ} (a : SweepAsk
     sweep-word w e = e ∙ a .words .each (live l ℓ i) (sweep-known a s b)
 
     -- a black is struck: x is its place in the word
-    module _ (w x t : ℕ) (h : 8 ≤ v) (e : w ≡ getD ws (live l ℓ i) 0) (f : t ≡ shiftOf first v) (g : x ≡ w / 2 ^ t % 16) where
+    module _ (w x t : ℕ) (h : 8 ≤ v) (e : w ≡ getD ws (live l ℓ i) 0) (f : t ≡ shiftOf (lane .first) v) (g : x ≡ w / 2 ^ t % 16) where
       black-part : part (blackAt ℓ) (wordOf n (live l ℓ i)) p v ≡ same x p
       unfolding HalfOf
       black-part =
@@ -79,7 +80,7 @@ module _ {n ℓ start stride first p v : ℕ} {ws l₀ : List ℕ} (a : SweepAsk
           r
 
     -- a digit is struck
-    module _ (w test have cell : ℕ) (o : Bool) (h : v < 8) (e : w ≡ getD ws (live l ℓ i) 0) (f : test ≡ testOf v p) (g : cell ≡ start + p * stride)
+    module _ (w test have cell : ℕ) (o : Bool) (h : v < 8) (e : w ≡ getD ws (live l ℓ i) 0) (f : test ≡ testOf v p) (g : cell ≡ lane .start + p * lane .stride)
         (t : Tested w test have (getD l cell 0) o) where
       tested : Tested w (testOf v p) have (getD l cell 0) o
       tested = rw f at t
@@ -93,14 +94,14 @@ module _ {n ℓ start stride first p v : ℕ} {ws l₀ : List ℕ} (a : SweepAsk
           (tested-kept n ℓ p v (live l ℓ i) l (a .ready .size) (sweep-known a s b) (a .place) h (sweep-line a) w have (getD l cell 0) o (sweep-word w e)
           at-cell tested (rw e c) d q)
 
-      pub digit-drop : {l′ : List ℕ} (m : ℕ) → m ≡ len - 1 → o ≡ false → Have start stride v l n have → Removed n ℓ i m l l′ → Sweeping n ℓ p v l₀ l′ i m
+      pub digit-drop : {l′ : List ℕ} (m : ℕ) → m ≡ len - 1 → o ≡ false → Have lane v l n have → Removed n ℓ i m l l′ → Sweeping n ℓ p v l₀ l′ i m
       digit-drop m c q k r =
           sweep-drop a s b m c
           (tested-dead n ℓ p v (live l ℓ i) l (a .ready .size) (sweep-known a s b) (a .place) h (sweep-line a) w have (getD l cell 0) o (sweep-word w e)
           at-cell tested (a .placed) k q)
           r
 
-      pub digit-have : {l′ : List ℕ} {m : ℕ} → Have start stride v l n have → Removed n ℓ i m l l′ → HaveAsk n start stride v l′ × Have start stride v l′ n have
+      pub digit-have : {l′ : List ℕ} {m : ℕ} → Have lane v l n have → Removed n ℓ i m l l′ → HaveAsk n lane v l′ × Have lane v l′ n have
       digit-have k r = (
         record {
           size = r .within .grown .size ∙ sweep-bounds a s .1;

@@ -12,6 +12,7 @@ use Rattle.bits.specs.Bit.{bit}
 use Rattle.bits.proofs.BitLaws.{bit-lt}
 use Rattle.bits.proofs.SumLaws.{same-yes, same-no}
 use Rattle.slab.proofs.StruckLaws.{grown-sized}
+use Rattle.lane.specs.declared.Lane.{Lane}
 use Rattle.words.specs.Word.{setOf, innerOf, fromOf, toOf, steps, after}
 use Rattle.words.proofs.StepLaws.{steps-none, steps-lt, steps-same, steps-after, after-in}
 use Rattle.arcs.specs.Arc.{support}
@@ -20,8 +21,8 @@ use Rattle.arcs.proofs.SunkLaws.{cell-in, slot-cell, sunk-none, sunk-as
 use Rattle.arcs.specs.Kill.{Placed, inners, InnerAsk}
 
 -- the code's places are cells
-pub placed-small : {line start stride : ℕ} → Placed line start stride → (p : ℕ) → p < 9 → start + p * stride < 81
-placed-small {line} {start} {stride} a p h = omega (arith, a .cells p h, cell-in line p (a .within) h)
+pub placed-small : {line : ℕ} {lane : Lane} → Placed line lane → (p : ℕ) → p < 9 → lane .start + p * lane .stride < 81
+placed-small {line} a p h = omega (arith, a .cells p h, cell-in line p (a .within) h)
 
 -- 1 where a is below b, else 0
 unfoldable pub below : ℕ → ℕ → ℕ
@@ -47,19 +48,19 @@ below-next a b d =
 abbrev pub passed : ℕ → ℕ → ℕ → ℕ → ℕ → ℕ → ℕ
 passed n line w p y v = min (below (steps n (fromOf w) (y % 9)) (steps n (fromOf w) p)) (inners line w y v)
 
-pub record Walking (n line start stride w : ℕ) (l₀ l : List ℕ) (p : ℕ) : Type 0 where
+pub record Walking (n line : ℕ) (lane : Lane) (w : ℕ) (l₀ l : List ℕ) (p : ℕ) : Type 0 where
   pub within : p < n
   pub begun : 0 < steps n (fromOf w) p
   pub upto : steps n (fromOf w) p ≤ steps n (fromOf w) (toOf w)
   pub sunk : Sunk (passed n line w p) l₀ l
 
-module _ {n line start stride w : ℕ} {l₀ : List ℕ} (a : InnerAsk n line start stride w l₀) where
+module _ {n line w : ℕ} {lane : Lane} {l₀ : List ℕ} (a : InnerAsk n line lane w l₀) where
   -- one step on is still on the way
   ahead : (p : ℕ) → p < n → steps n (fromOf w) p < steps n (fromOf w) (toOf w) → steps n (fromOf w) (after n p) ≡ steps n (fromOf w) p + 1
   ahead p h l =
       steps-after n (fromOf w) p (a .shaped .from-in) h (omega (arith, steps-lt n (fromOf w) (toOf w) (a .shaped .from-in) (a .shaped .to-in)))
 
-  pub walking-start : (f p : ℕ) → f ≡ fromOf w → p ≡ after n f → Walking n line start stride w l₀ l₀ p
+  pub walking-start : (f p : ℕ) → f ≡ fromOf w → p ≡ after n f → Walking n line lane w l₀ l₀ p
   walking-start f p e q =
       let z = steps-none n (fromOf w) in
       let i = a .shaped .from-in in
@@ -81,7 +82,7 @@ module _ {n line start stride w : ℕ} {l₀ : List ℕ} (a : InnerAsk n line st
           out (yes i) = omega (arith, a .shaped .beyond (y % 9) i (inl (omega arith)))
           out (no i) = omega (arith, a .shaped .past (y % 9) (omega arith) (omega arith))
 
-  module _ {l : List ℕ} {p : ℕ} (c : Walking n line start stride w l₀ l p) (t : ℕ) (e : t ≡ toOf w) (d : p ≡ t → ⊥) where
+  module _ {l : List ℕ} {p : ℕ} (c : Walking n line lane w l₀ l p) (t : ℕ) (e : t ≡ toOf w) (d : p ≡ t → ⊥) where
     before-end : steps n (fromOf w) p < steps n (fromOf w) (toOf w)
     before-end = go (ℕ-discrete (steps n (fromOf w) p) (steps n (fromOf w) (toOf w)))
       where
@@ -101,7 +102,7 @@ module _ {n line start stride w : ℕ} {l₀ : List ℕ} (a : InnerAsk n line st
     slot-place : (line * 9 + p) % 9 ≡ p
     slot-place = omega (arith, narrow)
 
-    pub walking-ask : (x m : ℕ) → x ≡ setOf w → m ≡ start + p * stride → DigitsAsk l (line * 9 + p) m x
+    pub walking-ask : (x m : ℕ) → x ≡ setOf w → m ≡ lane .start + p * lane .stride → DigitsAsk l (line * 9 + p) m x
     walking-ask x m f g =
         record {
           sized = grown-sized (c .sunk .grown) (a .sized);
@@ -115,7 +116,7 @@ module _ {n line start stride w : ℕ} {l₀ : List ℕ} (a : InnerAsk n line st
             let z : below (steps n (fromOf w) ((line * 9 + p) % 9)) (steps n (fromOf w) p) ≡ 0 = rw slot-place (below-no _ _ (omega arith)) in
             omega (arith, c .sunk .falls (line * 9 + p) v (omega (arith, narrow, a .placed .within)) h, a .enough p v narrow h, inner, bit-lt v (setOf w))
 
-    pub walking-next : {l′ : List ℕ} (x p′ : ℕ) → x ≡ setOf w → p′ ≡ after n p → Sunk (masked (line * 9 + p) x) l l′ → Walking n line start stride w l₀ l′ p′
+    pub walking-next : {l′ : List ℕ} (x p′ : ℕ) → x ≡ setOf w → p′ ≡ after n p → Sunk (masked (line * 9 + p) x) l l′ → Walking n line lane w l₀ l′ p′
     walking-next {l′} x p′ f g m =
         let h = ahead p (c .within) before-end in
         let k : steps n (fromOf w) p′ ≡ steps n (fromOf w) p + 1 = ap (steps n (fromOf w)) g ∙ h in
@@ -144,7 +145,7 @@ module _ {n line start stride w : ℕ} {l₀ : List ℕ} (a : InnerAsk n line st
                 omega (arith, same-no y (line * 9 + p) q)
             go (no i) = omega (arith, same-no y (line * 9 + p) q, a .shaped .past (y % 9) (omega arith) (omega arith))
 
-  pub walking-end : {l : List ℕ} {p : ℕ} → Walking n line start stride w l₀ l p → (t : ℕ) → t ≡ toOf w → p ≡ t → Sunk (inners line w) l₀ l
+  pub walking-end : {l : List ℕ} {p : ℕ} → Walking n line lane w l₀ l p → (t : ℕ) → t ≡ toOf w → p ≡ t → Sunk (inners line w) l₀ l
   walking-end {l} {p} c t e d = sunk-as (c .sunk) (λ y v hy hv. all y v (decLt (y % 9) n) (decLt (steps n (fromOf w) (y % 9)) (steps n (fromOf w) p)))
     where
       at-end : steps n (fromOf w) p ≡ steps n (fromOf w) (toOf w)
@@ -156,7 +157,7 @@ module _ {n line start stride w : ℕ} {l₀ : List ℕ} (a : InnerAsk n line st
       all y v (yes i) (no l) = omega (arith, a .shaped .beyond (y % 9) i (inr (omega (arith, at-end))))
 
   -- each step comes nearer
-  pub walking-less : {l : List ℕ} {p : ℕ} → Walking n line start stride w l₀ l p → (t : ℕ) → t ≡ toOf w → (p ≡ t → ⊥) → (p′ : ℕ) → p′ ≡ after n p →
+  pub walking-less : {l : List ℕ} {p : ℕ} → Walking n line lane w l₀ l p → (t : ℕ) → t ≡ toOf w → (p ≡ t → ⊥) → (p′ : ℕ) → p′ ≡ after n p →
       steps n (fromOf w) (toOf w) - steps n (fromOf w) p′ < steps n (fromOf w) (toOf w) - steps n (fromOf w) p
   walking-less c t e d p′ g =
       let b = before-end c t e d in

@@ -7,20 +7,21 @@ use mathlib.Core.List.{List}
 use lib.Bits.{bitAnd, bitOr}
 use lib.ListN.{length, getD}
 use Rattle.bits.specs.Bit.{bit}
+use Rattle.lane.specs.declared.Lane.{Lane}
 use Rattle.words.specs.Word.{setOf, coveredOf}
 use Rattle.slab.specs.Layout.{slabSize}
 use lib.Dec.{eqb}
 
 -- A line of n places, from its start on.
-pub record HaveAsk (n start stride v : ℕ) (l : List ℕ) : Type 0 where
+pub record HaveAsk (n : ℕ) (lane : Lane) (v : ℕ) (l : List ℕ) : Type 0 where
   pub size : length l ≡ slabSize
   pub high : n ≤ 9
   pub narrow : v < 16
-  pub cells : (q : ℕ) → q < 9 → start + q * stride < 81
+  pub cells : (q : ℕ) → q < 9 → lane .start + q * lane .stride < 81
 
 -- Every place before p that has the value v is in the mask have.
-unfoldable pub Have : ℕ → ℕ → ℕ → List ℕ → ℕ → ℕ → Type 0
-Have start stride v l p have = (q : ℕ) → q < p → bit v (getD l (start + q * stride) 0) ≤ bit q have
+unfoldable pub Have : Lane → ℕ → List ℕ → ℕ → ℕ → Type 0
+Have lane v l p have = (q : ℕ) → q < p → bit v (getD l (lane .start + q * lane .stride) 0) ≤ bit q have
 
 -- An arrangement is kept if it has not the struck digit at the struck place, or the cell has another digit of its set; one that goes has the digit there,
 -- and no place that has the digit, or no digit of its set in the cell.

@@ -6,14 +6,15 @@ use Rattle.bits.specs.Bit.{bit}
 use Rattle.bits.specs.Sum.{same}
 use Rattle.rules.specs.Size.{Size}
 use Rattle.slab.specs.Slab.{Sized}
+use Rattle.lane.specs.declared.Lane.{Lane}
 use Rattle.words.specs.Word.{setOf, innerOf, part, Shaped}
 use Rattle.arcs.specs.Arc.{support}
 use Rattle.table.specs.Lines.{cellAt, blackAt}
 
--- A line by its number, and as the code walks it: by its first cell and its stride.
-pub record Placed (line start stride : ℕ) : Type 0 where
+-- The cells of the lane are those of the line with the number, place by place.
+pub record Placed (line : ℕ) (lane : Lane) : Type 0 where
   pub within : line < 18
-  pub cells : (p : ℕ) → p < 9 → start + p * stride ≡ cellAt line p
+  pub cells : (p : ℕ) → p < 9 → lane .start + p * lane .stride ≡ cellAt line p
 
 -- How the supports of a line fall when a word leaves it: all of it, and its inner places alone.
 abbrev pub parts : ℕ → ℕ → ℕ → ℕ → ℕ
@@ -22,17 +23,17 @@ parts line w y v = min (same (y / 9) line) (part (blackAt line) w (y % 9) v)
 abbrev pub inners : ℕ → ℕ → ℕ → ℕ → ℕ
 inners line w y v = min (same (y / 9) line) (min (bit (y % 9) (innerOf w)) (bit v (setOf w)))
 
-pub record InnerAsk (n line start stride w : ℕ) (l : List ℕ) : Type 0 where
+pub record InnerAsk (n line : ℕ) (lane : Lane) (w : ℕ) (l : List ℕ) : Type 0 where
   pub sized : Sized l
   pub size : Size n
-  pub placed : Placed line start stride
+  pub placed : Placed line lane
   pub shaped : Shaped n w
   pub enough : (q v : ℕ) → q < 9 → v < 16 → min (bit q (innerOf w)) (bit v (setOf w)) ≤ support l (line * 9 + q) v
 
-pub record KillAsk (n line start stride first w : ℕ) (l : List ℕ) : Type 0 where
+pub record KillAsk (n line : ℕ) (lane : Lane) (w : ℕ) (l : List ℕ) : Type 0 where
   pub sized : Sized l
   pub size : Size n
-  pub placed : Placed line start stride
-  pub black : first ≡ blackAt line
+  pub placed : Placed line lane
+  pub black : lane .first ≡ blackAt line
   pub shaped : Shaped n w
   pub enough : (q v : ℕ) → q < 9 → v < 16 → part (blackAt line) w q v ≤ support l (line * 9 + q) v

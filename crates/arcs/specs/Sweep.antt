@@ -7,6 +7,7 @@ use lib.ListN.{getD}
 use Rattle.slab.specs.Layout.{countersAt, lengthsAt, perLine, livePlace, supportPlace}
 use Rattle.slab.specs.Slab.{cand, Grown}
 use Rattle.slab.specs.Ready.{Ready, Next}
+use Rattle.lane.specs.declared.Lane.{Lane}
 use Rattle.words.specs.Word.{wordOf, part, Words}
 use Rattle.arcs.specs.Arc.{lives, live, support, Tallied, Alive, Fewer, Older, Holding, Unsupported}
 use Rattle.table.specs.Value.{HalfOf}
@@ -15,11 +16,11 @@ use Rattle.arcs.specs.Kill.{Placed}
 
 -- ---- one arrangement leaves
 
-pub record RemoveAsk (n line start stride first i len w : ℕ) (l : List ℕ) : Type 0 where
+pub record RemoveAsk (n line : ℕ) (lane : Lane) (i len w : ℕ) (l : List ℕ) : Type 0 where
   pub ready : Ready n l
   pub of : LineOf n line
-  pub placed : Placed line start stride
-  pub black : first ≡ blackAt line
+  pub placed : Placed line lane
+  pub black : lane .first ≡ blackAt line
   pub tallied : Tallied n line (len + 1) l
   pub listed : i ≤ len
   pub word : w ≡ wordOf n (live l line i)
@@ -65,12 +66,12 @@ unfoldable pub AllAlive : ℕ → ℕ → List ℕ → ℕ → Type 0
 AllAlive n ℓ l h = (j : ℕ) → j < lives l ℓ → Alive n ℓ l h (live l ℓ j)
 
 -- What the sweep of line ℓ for the strike of v at place p needs.
-pub record SweepAsk (n line start stride first p v : ℕ) (ws l : List ℕ) : Type 0 where
+pub record SweepAsk (n line : ℕ) (lane : Lane) (p v : ℕ) (ws l : List ℕ) : Type 0 where
   pub ready : Ready n l
   pub words : Words n ws
   pub of : LineOf n line
-  pub placed : Placed line start stride
-  pub black : first ≡ blackAt line
+  pub placed : Placed line lane
+  pub black : lane .first ≡ blackAt line
   pub place : p < n
   pub narrow : v < 16
   pub half : HalfOf (blackAt line) v

@@ -1,6 +1,7 @@
 // The live arrangements of the lines, and arc consistency (in the Rust: update_arc).
 ghost use mathlib.Core.Path.{_≡_};
-ghost use Prim.Native.Nat.{_≤_, _<_};
+ghost use mathlib.Core.Logic.{_⊎_};
+ghost use Prim.Native.Nat.{_+_, _≤_, _<_};
 ghost use lib.ListN.{length, getD};
 ghost use Rattle.slab.specs.Layout.{perLine, slabSize};
 ghost use Rattle.words.specs.Word.{after};
@@ -9,6 +10,7 @@ ghost use Rattle.arcs.specs.Arc.{live, ArcAsk, ArcDone};
 ghost use Rattle.arcs.specs.Have.{HaveAsk, Have, Tested, testOf, shiftOf};
 ghost use Rattle.arcs.specs.Sweep.{RemoveAsk, Removed, SweepAsk, Swept, LineDone};
 ghost use Rattle.arcs.specs.Sunk.{Sunk, single, masked, DropAsk, DigitsAsk};
+use lane::Lane;
 use slab::Slab;
 use value::Value;
 use value::wide;
@@ -45,58 +47,48 @@ fn next_place(n: usize, p: usize) -> usize
 }
 
 // The supports of a word fall at its inner places.
-fn drop_inner(st: &mut [u16], n: usize, line: usize, start: usize, stride: usize, w: u32)
-    requires { ⌜ InnerAsk n line start stride w (now st) ⌝ }
-    ensures { λ _. ⌜ Sunk (inners line w) (now (st .entry)) (now (st .exit)) ⌝ }
+fn drop_inner(st: &mut [u16], n: usize, lane: Lane, w: u32)
+    requires { ⌜ InnerAsk n (lane .number) lane w (now st) ⌝ }
+    ensures { λ _. ⌜ Sunk (inners (lane .number) w) (now (st .entry)) (now (st .exit)) ⌝ }
 {
     let set = words::set_of(w);
     let to = words::to_of(w);
     let mut p = next_place(n, words::from_of(w));
     while p != to {
-        drop_digits(st, line * 9 + p, start + p * stride, set);
+        drop_digits(st, lane.number * 9 + p, lane.start + p * lane.stride, set);
         p = next_place(n, p);
     }
 }
 
 // An arrangement leaves its line: its supports fall from end to end.
-fn kill(st: &mut [u16], n: usize, line: usize, start: usize, stride: usize, first: usize, w: u32)
-    requires { ⌜ KillAsk n line start stride first w (now st) ⌝ }
-    ensures { λ _. ⌜ Sunk (parts line w) (now (st .entry)) (now (st .exit)) ⌝ }
+fn kill(st: &mut [u16], n: usize, lane: Lane, w: u32)
+    requires { ⌜ KillAsk n (lane .number) lane w (now st) ⌝ }
+    ensures { λ _. ⌜ Sunk (parts (lane .number) w) (now (st .entry)) (now (st .exit)) ⌝ }
 {
     let from = words::from_of(w);
     let to = words::to_of(w);
     drop_support(
         st,
-        line * 9 + from,
-        start + from * stride,
-        words::head_of(w, first),
+        lane.number * 9 + from,
+        lane.start + from * lane.stride,
+        words::head_of(w, lane.first),
     );
-    drop_inner(st, n, line, start, stride, w);
+    drop_inner(st, n, lane, w);
     drop_support(
         st,
-        line * 9 + to,
-        start + to * stride,
-        words::last_of(w, first),
+        lane.number * 9 + to,
+        lane.start + to * lane.stride,
+        words::last_of(w, lane.first),
     );
 }
 
 // Arrangement i of the list leaves, and w is its word; the last one takes its place, and len are left.
-fn remove(
-    st: &mut [u16],
-    n: usize,
-    line: usize,
-    start: usize,
-    stride: usize,
-    first: usize,
-    i: usize,
-    len: usize,
-    w: u32,
-)
-    requires { ⌜ RemoveAsk n line start stride first i len w (now st) ⌝ }
-    ensures { λ _. ⌜ Removed n line i len (now (st .entry)) (now (st .exit)) ⌝ }
+fn remove(st: &mut [u16], n: usize, lane: Lane, i: usize, len: usize, w: u32)
+    requires { ⌜ RemoveAsk n (lane .number) lane i len w (now st) ⌝ }
+    ensures { λ _. ⌜ Removed n (lane .number) i len (now (st .entry)) (now (st .exit)) ⌝ }
 {
-    live_list::remove(st, Slab::LIVE + line * Slab::PER_LINE, i, len);
-    kill(st, n, line, start, stride, first, w);
+    live_list::remove(st, Slab::LIVE + lane.number * Slab::PER_LINE, i, len);
+    kill(st, n, lane, w);
 }
 
 // The word of arrangement i of a line's list.
@@ -132,67 +124,49 @@ fn keeps(w: u32, test: u32, have: u32, cands: u16) -> bool
 }
 
 // The places of a line that have the value v.
-fn having(st: &[u16], n: usize, start: usize, stride: usize, v: usize) -> u32
-    requires { ⌜ HaveAsk n start stride v (now st) ⌝ }
-    ensures { λ r. ⌜ Have start stride v (now (st .entry)) n r ⌝ }
+fn having(st: &[u16], n: usize, lane: Lane, v: usize) -> u32
+    requires { ⌜ HaveAsk n lane v (now st) ⌝ }
+    ensures { λ r. ⌜ Have lane v (now (st .entry)) n r ⌝ }
 {
     let mut have = 0u32;
     let mut q = 0;
     while q < n {
-        have = have | ((((st[start + q * stride] >> v) % 2) as u32) << q);
+        have = have | ((((st[lane.start + q * lane.stride] >> v) % 2) as u32) << q);
         q += 1;
     }
     have
 }
 
 // The same, if strikes were made since the queue had t of them.
-fn having_since(
-    st: &[u16],
-    n: usize,
-    start: usize,
-    stride: usize,
-    v: usize,
-    t: u16,
-    have: u32,
-) -> u32
-    requires { ⌜ HaveAsk n start stride v (now st) × Have start stride v (now st) n have ⌝ }
-    ensures { λ r. ⌜ Have start stride v (now (st .entry)) n r ⌝ }
+fn having_since(st: &[u16], n: usize, lane: Lane, v: usize, t: u16, have: u32) -> u32
+    requires { ⌜ HaveAsk n lane v (now st) × Have lane v (now st) n have ⌝ }
+    ensures { λ r. ⌜ Have lane v (now (st .entry)) n r ⌝ }
 {
     if st[Slab::TAIL] == t {
         return have;
     }
-    having(st, n, start, stride, v)
+    having(st, n, lane, v)
 }
 
 // The sweep for a digit that is struck at place p: the dead arrangements of the line leave. Gives how many are left.
-fn sweep_digit(
-    st: &mut [u16],
-    words: &[u32],
-    n: usize,
-    line: usize,
-    start: usize,
-    stride: usize,
-    first: usize,
-    p: usize,
-    v: usize,
-) -> usize
-    requires { ⌜ SweepAsk n line start stride first p v (now words) (now st) × (v < 8) ⌝ }
-    ensures { λ r. ⌜ Swept n line p v (now (st .entry)) (now (st .exit)) r ⌝ }
+fn sweep_digit(st: &mut [u16], words: &[u32], n: usize, lane: Lane, p: usize, v: usize) -> usize
+    requires { ⌜ SweepAsk n (lane .number) lane p v (now words) (now st) × (v < 8) ⌝ }
+    ensures { λ r. ⌜ Swept n (lane .number) p v (now (st .entry)) (now (st .exit)) r ⌝ }
 {
-    let cell = start + p * stride;
+    let cell = lane.start + p * lane.stride;
     let test = digit_test(v, p);
-    let mut have = having(st, n, start, stride, v);
+    let mut have = having(st, n, lane, v);
     let mut i = 0;
-    let mut len = wide(st[Slab::LENGTHS + line]);
+    let mut len = wide(st[Slab::LENGTHS + lane.number]);
     while i < len {
-        let w = word_at(st, words, line, i);
+        let w = word_at(st, words, lane.number, i);
         if keeps(w, test, have, st[cell]) {
             i += 1;
         } else {
             let t = st[Slab::TAIL];
             len -= 1;
-            remove(st, n, line, start, stride, first, i, len, w);
-            have = having_since(st, n, start, stride, v, t, have);
+            remove(st, n, lane, i, len, w);
+            have = having_since(st, n, lane, v, t, have);
         }
     }
     len
@@ -206,28 +180,18 @@ fn black_shift(first: usize, v: usize) -> u32
 }
 
 // The sweep for a black that is struck at place p: the arrangements that have it there leave. Gives how many are left.
-fn sweep_black(
-    st: &mut [u16],
-    words: &[u32],
-    n: usize,
-    line: usize,
-    start: usize,
-    stride: usize,
-    first: usize,
-    p: usize,
-    v: usize,
-) -> usize
-    requires { ⌜ SweepAsk n line start stride first p v (now words) (now st) × (8 ≤ v) ⌝ }
-    ensures { λ r. ⌜ Swept n line p v (now (st .entry)) (now (st .exit)) r ⌝ }
+fn sweep_black(st: &mut [u16], words: &[u32], n: usize, lane: Lane, p: usize, v: usize) -> usize
+    requires { ⌜ SweepAsk n (lane .number) lane p v (now words) (now st) × (8 ≤ v) ⌝ }
+    ensures { λ r. ⌜ Swept n (lane .number) p v (now (st .entry)) (now (st .exit)) r ⌝ }
 {
-    let shift = black_shift(first, v);
+    let shift = black_shift(lane.first, v);
     let mut i = 0;
-    let mut len = wide(st[Slab::LENGTHS + line]);
+    let mut len = wide(st[Slab::LENGTHS + lane.number]);
     while i < len {
-        let w = word_at(st, words, line, i);
+        let w = word_at(st, words, lane.number, i);
         if ((w >> shift) % 16) as usize == p {
             len -= 1;
-            remove(st, n, line, start, stride, first, i, len, w);
+            remove(st, n, lane, i, len, w);
         } else {
             i += 1;
         }
@@ -236,44 +200,42 @@ fn sweep_black(
 }
 
 // The sweep for the value v that is struck at place p. Gives how many arrangements are left.
-fn sweep(
-    st: &mut [u16],
-    words: &[u32],
-    n: usize,
-    line: usize,
-    start: usize,
-    stride: usize,
-    first: usize,
-    p: usize,
-    v: usize,
-) -> usize
-    requires { ⌜ SweepAsk n line start stride first p v (now words) (now st) ⌝ }
-    ensures { λ r. ⌜ Swept n line p v (now (st .entry)) (now (st .exit)) r ⌝ }
+fn sweep(st: &mut [u16], words: &[u32], n: usize, lane: Lane, p: usize, v: usize) -> usize
+    requires { ⌜ SweepAsk n (lane .number) lane p v (now words) (now st) ⌝ }
+    ensures { λ r. ⌜ Swept n (lane .number) p v (now (st .entry)) (now (st .exit)) r ⌝ }
 {
     if v < Value::BLACK1_ROW {
-        return sweep_digit(st, words, n, line, start, stride, first, p, v);
+        return sweep_digit(st, words, n, lane, p, v);
     }
-    sweep_black(st, words, n, line, start, stride, first, p, v)
+    sweep_black(st, words, n, lane, p, v)
 }
 
-// The value v is struck at place p of a line: its dead arrangements leave. Without support no live arrangement has the value there.
-fn update_line(
-    st: &mut [u16],
-    words: &[u32],
-    n: usize,
-    line: usize,
-    start: usize,
-    stride: usize,
-    first: usize,
-    p: usize,
-    v: usize,
-)
-    requires { ⌜ SweepAsk n line start stride first p v (now words) (now st) ⌝ }
-    ensures { λ _. ⌜ LineDone n line p v (now (st .entry)) (now (st .exit)) ⌝ }
+// The value v is struck at place p of a line: its dead arrangements leave.
+fn update_line(st: &mut [u16], words: &[u32], n: usize, lane: Lane, p: usize, v: usize)
+    requires { ⌜ SweepAsk n (lane .number) lane p v (now words) (now st) ⌝ }
+    ensures { λ _. ⌜ LineDone n (lane .number) p v (now (st .entry)) (now (st .exit)) ⌝ }
 {
-    if st[Slab::SUPPORT + (line * 9 + p) * 16 + v] != 0 {
-        let len = sweep(st, words, n, line, start, stride, first, p, v);
-        st[Slab::LENGTHS + line] = len as u16;
+    let len = sweep(st, words, n, lane, p, v);
+    st[Slab::LENGTHS + lane.number] = len as u16;
+}
+
+// A value of the row half is struck in row r, at place c: without support no live arrangement has it there, and there is nothing to call.
+fn update_row(st: &mut [u16], words: &[u32], n: usize, r: usize, c: usize, v: usize)
+    requires { ⌜ ArcAsk n (now words) (now st) r c v × (v < 10) ⌝ }
+    ensures { λ _. ⌜ LineDone n r c v (now (st .entry)) (now (st .exit)) ⌝ }
+{
+    if st[Slab::SUPPORT + (r * 9 + c) * 16 + v] != 0 {
+        update_line(st, words, n, Lane::row(r), c, v);
+    }
+}
+
+// A value of the column half is struck in column c, at place r.
+fn update_column(st: &mut [u16], words: &[u32], n: usize, r: usize, c: usize, v: usize)
+    requires { ⌜ ArcAsk n (now words) (now st) r c v × ((v < 8) ⊎ (10 ≤ v)) ⌝ }
+    ensures { λ _. ⌜ LineDone n (9 + c) r v (now (st .entry)) (now (st .exit)) ⌝ }
+{
+    if st[Slab::SUPPORT + ((9 + c) * 9 + r) * 16 + v] != 0 {
+        update_line(st, words, n, Lane::column(c), r, v);
     }
 }
 
@@ -283,13 +245,13 @@ pub fn update_arc(st: &mut [u16], words: &[u32], n: usize, r: usize, c: usize, v
     ensures { λ _. ⌜ ArcDone n (now (st .entry)) (now (st .exit)) r c v ⌝ }
 {
     if v < Value::BLACK1_ROW {
-        update_line(st, words, n, r, r * 9, 1, Value::BLACK1_ROW, c, v);
-        update_line(st, words, n, 9 + c, c, 9, Value::BLACK1_COL, r, v);
+        update_row(st, words, n, r, c, v);
+        update_column(st, words, n, r, c, v);
         return;
     }
     if v < Value::BLACK1_COL {
-        update_line(st, words, n, r, r * 9, 1, Value::BLACK1_ROW, c, v);
+        update_row(st, words, n, r, c, v);
         return;
     }
-    update_line(st, words, n, 9 + c, c, 9, Value::BLACK1_COL, r, v);
+    update_column(st, words, n, r, c, v);
 }

@@ -9,10 +9,10 @@ use Rattle.arcs.proofs.drop_inner.Statement.{statement}
 use Rattle.arcs.proofs.drop_inner.Tie as tie
 
 abbrev Inv-loop : tie.InvT-loop
-Inv-loop st₀ n line start stride w set to p₀ st p = Walking n line start stride w st₀ st p
+Inv-loop st₀ n lane w set to p₀ st p = Walking n (lane .number) lane w st₀ st p
 
 abbrev μ-loop : tie.MeasureT-loop
-μ-loop st₀ n line start stride w set to p₀ st p = steps n (fromOf w) (toOf w) - steps n (fromOf w) p
+μ-loop st₀ n lane w set to p₀ st p = steps n (fromOf w) (toOf w) - steps n (fromOf w) p
 
 set-of-requires : tie.Need-set-of-requires Inv-loop μ-loop
 set-of-requires c κs = search needs
@@ -32,53 +32,55 @@ loop-holds : tie.Need-loop-holds Inv-loop μ-loop
 loop-holds c = walking-start (c .before .before .before .before .before .pre) _ _ (c .before .from-of .ensures) (c .next-place .ensures)
 
 mul-drop-digits : tie.Need-mul-drop-digits Inv-loop μ-loop
-mul-drop-digits c = omega (arith, c .before .before .before .before .before .before .before .before .pre .placed .within)
+mul-drop-digits c = omega (arith, c .before .before .before .before .before .before .before .before .before .pre .placed .within)
 
 add-drop-digits : tie.Need-add-drop-digits Inv-loop μ-loop
 add-drop-digits c =
     let b₄ = c .before .before .before .before in
     let b₈ = b₄ .before .before .before .before in
-    omega (arith, b₈ .pre .placed .within, c .before .before .loop .inv .within, b₈ .pre .size .high)
+    omega (arith, b₈ .before .pre .placed .within, c .before .before .before .loop .inv .within, b₈ .before .pre .size .high)
 
 mul-drop-digits-2 : tie.Need-mul-drop-digits-2 Inv-loop μ-loop
 mul-drop-digits-2 c =
     let b₄ = c .before .before .before .before in
     let b₈ = b₄ .before .before .before .before in
-    omega (arith, placed-small (b₈ .pre .placed) (c .before .before .loop .p) (omega (arith, c .before .before .loop .inv .within, b₈ .pre .size .high)))
+    omega (arith, placed-small (b₈ .before .before .pre .placed) (b₄ .loop .p) (omega (arith, b₄ .loop .inv .within, b₈ .before .before .pre .size .high)))
 
 add-drop-digits-2 : tie.Need-add-drop-digits-2 Inv-loop μ-loop
 add-drop-digits-2 c =
     let b₄ = c .before .before .before .before in
     let b₈ = b₄ .before .before .before .before in
-    omega (arith, placed-small (b₈ .pre .placed) (c .before .before .loop .p) (omega (arith, c .before .before .loop .inv .within, b₈ .pre .size .high)))
+    let a = b₈ .before .before .before .pre in
+    omega (arith, placed-small (a .placed) (b₄ .before .loop .p) (omega (arith, b₄ .before .loop .inv .within, a .size .high)))
 
 drop-digits-requires : tie.Need-drop-digits-requires Inv-loop μ-loop
 drop-digits-requires c κs =
     let b₄ = c .before .before .before .before in
     let b₈ = b₄ .before .before .before .before in
-    walking-ask (b₈ .pre) (c .before .before .loop .inv) _ (b₄ .before .to-of .ensures) (c .before .loop-test .taken) _ _
-    (b₄ .before .before .set-of .ensures) refl
+    walking-ask (b₈ .before .before .before .pre) (b₄ .before .loop .inv) _ (b₈ .to-of .ensures) (b₄ .loop-test .taken) _ _
+    (b₈ .before .set-of .ensures) refl
 
 next-place-requires-2 : tie.Need-next-place-requires-2 Inv-loop μ-loop
 next-place-requires-2 c κs =
     let b₄ = c .before .before .before .before in
     let b₈ = b₄ .before .before .before .before in
-    (b₄ .before .loop .inv .within, b₈ .before .before .before .pre .size .high)
+    let b₁₂ = b₈ .before .before .before .before in
+    (b₈ .loop .inv .within, b₁₂ .before .before .pre .size .high)
 
 loop-less : tie.Need-loop-less Inv-loop μ-loop
 loop-less c =
     let b₄ = c .before .before .before .before in
     let b₈ = b₄ .before .before .before .before in
     let b₁₂ = b₈ .before .before .before .before in
-    walking-less (b₁₂ .pre) (b₄ .before .before .loop .inv) _ (b₈ .before .to-of .ensures) (b₄ .before .loop-test .taken) _ (c .next-place2 .ensures)
+    walking-less (b₁₂ .before .before .before .pre) (b₈ .before .loop .inv) _ (b₁₂ .to-of .ensures) (b₈ .loop-test .taken) _ (c .next-place2 .ensures)
 
 loop-again : tie.Need-loop-again Inv-loop μ-loop
 loop-again c =
     let b₄ = c .before .before .before .before in
     let b₈ = b₄ .before .before .before .before in
     let b₁₂ = b₈ .before .before .before .before in
-    walking-next (b₁₂ .pre) (b₄ .before .before .loop .inv) _ (b₈ .before .to-of .ensures) (b₄ .before .loop-test .taken) _ _
-    (b₈ .before .before .set-of .ensures) (c .next-place2 .ensures) (c .before .before .before .drop-digits .ensures)
+    walking-next (b₁₂ .before .before .before .pre) (b₈ .before .loop .inv) _ (b₁₂ .to-of .ensures) (b₈ .loop-test .taken) _ _
+    (b₁₂ .before .set-of .ensures) (c .next-place2 .ensures) (c .before .before .before .drop-digits .ensures)
 
 same-length : tie.Need-same-length Inv-loop μ-loop
 same-length c = search needs

@@ -7,33 +7,34 @@ use Rattle.arcs.proofs.having.Statement.{statement}
 use Rattle.arcs.proofs.having.Tie as tie
 
 abbrev Inv-loop : tie.InvT-loop
-Inv-loop st n start stride v have₀ q₀ have q = Having n start stride v st q have
+Inv-loop st n lane v have₀ q₀ have q = Having n lane v st q have
 
 abbrev μ-loop : tie.MeasureT-loop
-μ-loop st n start stride v have₀ q₀ have q = n - q
+μ-loop st n lane v have₀ q₀ have q = n - q
 
 loop-holds : tie.Need-loop-holds Inv-loop μ-loop
-loop-holds c = having-start _ _ _ _ _
+loop-holds c = having-start _ _ _ _
 
 mul-have : tie.Need-mul-have Inv-loop μ-loop
 mul-have c =
-    let a = c .before .before .pre in
-    omega (arith, a .cells (c .before .loop .q) (omega (arith, a .high, c .loop-test .taken)))
+    let a = c .before .before .before .pre in
+    omega (arith, a .cells (c .before .before .loop .q) (omega (arith, a .high, c .before .loop-test .taken)))
 
 add-have : tie.Need-add-have Inv-loop μ-loop
 add-have c =
-    let a = c .before .before .pre in
-    omega (arith, a .cells (c .before .loop .q) (omega (arith, a .high, c .loop-test .taken)))
+    let a = c .before .before .before .before .pre in
+    omega (arith, a .cells (c .before .before .before .loop .q) (omega (arith, a .high, c .before .before .loop-test .taken)))
 
 mul-have-2 : tie.Need-mul-have-2 Inv-loop μ-loop
 mul-have-2 c =
-    let a = c .before .before .pre in
-    omega (arith, a .cells (c .before .loop .q) (omega (arith, a .high, c .loop-test .taken)))
+    let a = c .before .before .before .before .pre in
+    omega (arith, a .cells (c .before .before .before .loop .q) (omega (arith, a .high, c .before .before .loop-test .taken)))
 
 shared-slice-read-have : tie.Need-shared-slice-read-have Inv-loop μ-loop
 shared-slice-read-have c =
-    let a = c .before .before .before .pre in
-    omega (arith, a .cells (c .before .before .loop .q) (omega (arith, a .high, c .before .loop-test .taken)), a .size)
+    let b₄ = c .before .before .before .before in
+    let a = b₄ .before .pre in
+    omega (arith, a .cells (b₄ .loop .q) (omega (arith, a .high, c .before .before .before .loop-test .taken)), a .size)
 
 cast-have : tie.Need-cast-have Inv-loop μ-loop
 cast-have c = search needs
@@ -57,7 +58,9 @@ loop-less : tie.Need-loop-less Inv-loop μ-loop
 loop-less c = search needs
 
 loop-again : tie.Need-loop-again Inv-loop μ-loop
-loop-again c = having-next (c .before .before .before .pre) (c .before .before .loop .inv) (c .before .loop-test .taken)
+loop-again c =
+    let b₄ = c .before .before .before .before in
+    having-next (b₄ .before .pre) (b₄ .loop .inv) (c .before .before .before .loop-test .taken)
 
 returns : tie.Need-returns Inv-loop μ-loop
 returns c = having-end (c .before .loop .inv) (c .loop-test .left)
