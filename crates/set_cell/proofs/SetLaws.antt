@@ -10,6 +10,8 @@ use borrow.Author.Tests.{eqb-true, eq-eqb, ne-eqb}
 use Rattle.bits.specs.Bit.{bit}
 use Rattle.table.specs.Steps.{strikes, taken}
 use Rattle.table.specs.Table.{inColumn, inRow}
+use Rattle.lane.specs.declared.Lane.{Lane}
+use Rattle.lane.specs.Lanes.{rowLane, columnLane}
 use Rattle.slab.specs.Slab.{cand, tableIn, Grown, Struck, Masked}
 use Rattle.slab.proofs.SlabLaws.{cand-lt}
 use Rattle.slab.proofs.StruckLaws.{struck-none, struck-both, struck-as}
@@ -33,32 +35,16 @@ module _ {n r c v : ℕ} {l : List ℕ} (a : SetAsk n l r c v) where
   pub ask-value : (1 ≤ v) × (v < 12)
   ask-value = value-range ask-high (a .value)
 
-  pub ask-row : SidesAsk l n (r * 9) 1 c v v
-  ask-row =
-      record {
-        sized = a .ready .sized;
-        before = omega (arith, ask-value);
-        behind = omega (arith, ask-value);
-        place = a .column;
-        cells = row-inside r n (omega (arith, a .row, ask-high)) ask-high;
-      }
+  pub ask-narrow : v < 16
+  ask-narrow = omega (arith, ask-value)
 
-  pub ask-column : SidesAsk l n c 9 r v v
-  ask-column =
-      record {
-        sized = a .ready .sized;
-        before = omega (arith, ask-value);
-        behind = omega (arith, ask-value);
-        place = a .row;
-        cells = column-inside c n (omega (arith, a .column, ask-high)) ask-high;
-      }
+  pub ask-row : {lane : Lane} {u w : ℕ} → lane ≡ rowLane r → u < 16 → w < 16 → SidesAsk l n lane c u w
+  ask-row e h k =
+      rw e (record { sized = a .ready .sized; before = h; behind = k; place = a .column; cells = row-inside r n (omega (arith, a .row, ask-high)) ask-high })
 
-  pub ask-row-blacks : SidesAsk l n (r * 9) 1 c 9 8
-  ask-row-blacks = record { sized = ask-row .sized; before = omega arith; behind = omega arith; place = ask-row .place; cells = ask-row .cells }
-
-  pub ask-column-blacks : SidesAsk l n c 9 r 11 10
-  ask-column-blacks =
-      record { sized = ask-column .sized; before = omega arith; behind = omega arith; place = ask-column .place; cells = ask-column .cells }
+  pub ask-column : {lane : Lane} {u w : ℕ} → lane ≡ columnLane c → u < 16 → w < 16 → SidesAsk l n lane r u w
+  ask-column e h k =
+      rw e (record { sized = a .ready .sized; before = h; behind = k; place = a .row; cells = column-inside c n (omega (arith, a .column, ask-high)) ask-high })
 
 -- ---- the parts together
 module _ {n r c v m : ℕ} {l : List ℕ} (a : SetAsk n l r c v) (f : RestOfHalf v m) where
@@ -68,11 +54,11 @@ module _ {n r c v m : ℕ} {l : List ℕ} (a : SetAsk n l r c v) (f : RestOfHalf
   high : n ≤ 9
   high = ask-high a
 
-  part-row : (x w : ℕ) → inRow v ≡ true → Sides (r * 9) 1 n c v v x w → Hits r c v (x / 9) (x % 9) w
+  part-row : (x w : ℕ) → inRow v ≡ true → Sides (rowLane r) n c v v x w → Hits r c v (x / 9) (x % 9) w
   part-row x w t (inl q) = let p = row-run q (omega (arith, high, a .column)) in in-row (p .0) (omega (arith, p .2)) t (q .value)
   part-row x w t (inr q) = let p = row-run q high in in-row (p .0) (omega (arith, p .1)) t (q .value)
 
-  part-column : (x w : ℕ) → inColumn v ≡ true → Sides c 9 n r v v x w → Hits r c v (x / 9) (x % 9) w
+  part-column : (x w : ℕ) → inColumn v ≡ true → Sides (columnLane c) n r v v x w → Hits r c v (x / 9) (x % 9) w
   part-column x w t (inl q) = let p = column-run q (omega (arith, high, a .column)) in in-column (p .0) (omega (arith, p .2)) t (q .value)
   part-column x w t (inr q) = let p = column-run q (omega (arith, high, a .column)) in in-column (p .0) (omega (arith, p .1)) t (q .value)
 
@@ -80,7 +66,7 @@ module _ {n r c v m : ℕ} {l : List ℕ} (a : SetAsk n l r c v) (f : RestOfHalf
   part-cell x w h e b =
       let q = f .only w h b in in-cell (omega (arith, high, a .column)) (omega (arith, high, a .column)) (q .0) (q .1)
 
-  part-blacks : (x w : ℕ) → 8 ≤ v → Sides (r * 9) 1 n c 9 8 x w ⊎ Sides c 9 n r 11 10 x w → Hits r c v (x / 9) (x % 9) w
+  part-blacks : (x w : ℕ) → 8 ≤ v → Sides (rowLane r) n c 9 8 x w ⊎ Sides (columnLane c) n r 11 10 x w → Hits r c v (x / 9) (x % 9) w
   part-blacks x w h (inl (inl q)) = let p = row-run q (omega (arith, high, a .column)) in to-left h (p .0) (p .2) (q .value)
   part-blacks x w h (inl (inr q)) = let p = row-run q high in to-right h (p .0) (omega (arith, p .1)) (q .value)
   part-blacks x w h (inr (inl q)) = let p = column-run q (omega (arith, high, a .column)) in above h (p .0) (p .2) (q .value)

@@ -1,5 +1,5 @@
 -- Setting a cell: which candidates are struck, and what is asked. Assumes nothing.
-use Prim.Native.Nat.{ℕ, _*_, _/_, _%_, _≤_, _<_}
+use Prim.Native.Nat.{ℕ, _/_, _%_, _≤_, _<_}
 use mathlib.Core.Path.{_≡_}
 use mathlib.Core.Bool.{Bool, true, _&&_, _||_}
 use mathlib.Core.Logic.{_≢_, _⊎_}
@@ -7,6 +7,7 @@ use mathlib.Core.List.{List}
 use Rattle.bits.specs.Bit.{bit}
 use Rattle.table.specs.Steps.{strikes}
 use Rattle.table.specs.Table.{inColumn, inRow}
+use Rattle.lane.specs.Lanes.{rowLane, columnLane}
 use Rattle.slab.specs.Ready.{Ready}
 use Rattle.table.specs.Value.{ValueOf}
 use Rattle.set_cell.specs.Run.{Sides}
@@ -24,13 +25,13 @@ pub record SetAsk (n : ℕ) (l : List ℕ) (r c v : ℕ) : Type 0 where
 
 -- The strikes of its parts: the value elsewhere in the row, elsewhere in the column, and, of a black, blacks that are out of order.
 abbrev pub RowOthers : ℕ → ℕ → ℕ → ℕ → ℕ → ℕ → Type 0
-RowOthers n r c v x w = (inRow v ≡ true) × Sides (r * 9) 1 n c v v x w
+RowOthers n r c v x w = (inRow v ≡ true) × Sides (rowLane r) n c v v x w
 
 abbrev pub ColumnOthers : ℕ → ℕ → ℕ → ℕ → ℕ → ℕ → Type 0
-ColumnOthers n r c v x w = (inColumn v ≡ true) × Sides c 9 n r v v x w
+ColumnOthers n r c v x w = (inColumn v ≡ true) × Sides (columnLane c) n r v v x w
 
 abbrev pub BlacksAround : ℕ → ℕ → ℕ → ℕ → ℕ → ℕ → Type 0
-BlacksAround n r c v x w = (8 ≤ v) × (Sides (r * 9) 1 n c 9 8 x w ⊎ Sides c 9 n r 11 10 x w)
+BlacksAround n r c v x w = (8 ≤ v) × (Sides (rowLane r) n c 9 8 x w ⊎ Sides (columnLane c) n r 11 10 x w)
 
 -- Two values are of one half.
 abbrev pub oneHalf : ℕ → ℕ → Bool

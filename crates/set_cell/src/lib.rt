@@ -1,4 +1,5 @@
 // Setting a cell to a value strikes what the rules of the puzzle then leave out (in the Rust: set_cell).
+use lane::Lane;
 use slab::clear_mask;
 use slab::clear_value;
 use value::Value;
@@ -27,24 +28,24 @@ pub fn in_column(v: usize) -> bool
 }
 
 // Strikes v at the places from a to b - 1 of a line.
-fn clear_run(st: &mut [u16], start: usize, stride: usize, a: usize, b: usize, v: usize)
-    requires { ⌜ RunAsk (now st) start stride a b v ⌝ }
-    ensures { λ _. ⌜ Struck (now (st .entry)) (now (st .exit)) (Run start stride a b v) ⌝ }
+fn clear_run(st: &mut [u16], lane: Lane, a: usize, b: usize, v: usize)
+    requires { ⌜ RunAsk (now st) lane a b v ⌝ }
+    ensures { λ _. ⌜ Struck (now (st .entry)) (now (st .exit)) (Run lane a b v) ⌝ }
 {
     let mut p = a;
     while p < b {
-        clear_value(st, start + p * stride, v);
+        clear_value(st, lane.start + p * lane.stride, v);
         p += 1;
     }
 }
 
 // Strikes u before place i of a line of n, and v behind it.
-fn clear_sides(st: &mut [u16], n: usize, start: usize, stride: usize, i: usize, u: usize, v: usize)
-    requires { ⌜ SidesAsk (now st) n start stride i u v ⌝ }
-    ensures { λ _. ⌜ Struck (now (st .entry)) (now (st .exit)) (Sides start stride n i u v) ⌝ }
+fn clear_sides(st: &mut [u16], n: usize, lane: Lane, i: usize, u: usize, v: usize)
+    requires { ⌜ SidesAsk (now st) n lane i u v ⌝ }
+    ensures { λ _. ⌜ Struck (now (st .entry)) (now (st .exit)) (Sides lane n i u v) ⌝ }
 {
-    clear_run(st, start, stride, 0, i, u);
-    clear_run(st, start, stride, i + 1, n, v);
+    clear_run(st, lane, 0, i, u);
+    clear_run(st, lane, i + 1, n, v);
 }
 
 // Strikes v elsewhere in the row, if it is a value of the row half.
@@ -53,7 +54,7 @@ fn clear_row(st: &mut [u16], n: usize, r: usize, c: usize, v: usize)
     ensures { λ _. ⌜ Struck (now (st .entry)) (now (st .exit)) (RowOthers n r c v) ⌝ }
 {
     if in_row(v) {
-        clear_sides(st, n, r * 9, 1, c, v, v);
+        clear_sides(st, n, Lane::row(r), c, v, v);
     }
 }
 
@@ -63,7 +64,7 @@ fn clear_column(st: &mut [u16], n: usize, r: usize, c: usize, v: usize)
     ensures { λ _. ⌜ Struck (now (st .entry)) (now (st .exit)) (ColumnOthers n r c v) ⌝ }
 {
     if in_column(v) {
-        clear_sides(st, n, c, 9, r, v, v);
+        clear_sides(st, n, Lane::column(c), r, v, v);
     }
 }
 
@@ -73,8 +74,15 @@ fn clear_around(st: &mut [u16], n: usize, r: usize, c: usize, v: usize)
     ensures { λ _. ⌜ Struck (now (st .entry)) (now (st .exit)) (BlacksAround n r c v) ⌝ }
 {
     if Value::BLACK1_ROW <= v {
-        clear_sides(st, n, r * 9, 1, c, Value::BLACK2_ROW, Value::BLACK1_ROW);
-        clear_sides(st, n, c, 9, r, Value::BLACK2_COL, Value::BLACK1_COL);
+        clear_sides(st, n, Lane::row(r), c, Value::BLACK2_ROW, Value::BLACK1_ROW);
+        clear_sides(
+            st,
+            n,
+            Lane::column(c),
+            r,
+            Value::BLACK2_COL,
+            Value::BLACK1_COL,
+        );
     }
 }
 

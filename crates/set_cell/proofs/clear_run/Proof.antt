@@ -9,32 +9,29 @@ use Rattle.set_cell.proofs.clear_run.Statement.{statement}
 use Rattle.set_cell.proofs.clear_run.Tie as tie
 
 abbrev Inv-loop : tie.InvT-loop
-Inv-loop st₀ start stride a b v p₀ st p = Running st₀ st start stride a p b v
+Inv-loop st₀ lane a b v p₀ st p = Running st₀ st lane a p b v
 
 abbrev μ-loop : tie.MeasureT-loop
-μ-loop st₀ start stride a b v p₀ st p = b - p
+μ-loop st₀ lane a b v p₀ st p = b - p
 
 loop-holds : tie.Need-loop-holds Inv-loop μ-loop
 loop-holds c = search (needs, running-start)
 
 mul-clear-value : tie.Need-mul-clear-value Inv-loop μ-loop
 mul-clear-value c =
-    let a = c .before .before .before .before in
-    omega (arith, a .pre .cells .inside (c .before .before .loop .p) (c .before .loop-test .taken))
+    let a = c .before .before .before .before .before .pre in
+    omega (arith, a .cells .inside (c .before .before .before .loop .p) (c .before .before .loop-test .taken))
 
 add-clear-value : tie.Need-add-clear-value Inv-loop μ-loop
 add-clear-value c =
-    let a = c .before .before .before .before in
-    omega (arith, a .pre .cells .inside (c .before .before .loop .p) (c .before .loop-test .taken))
+    let b₄ = c .before .before .before .before in
+    omega (arith, b₄ .before .before .pre .cells .inside (b₄ .loop .p) (c .before .before .before .loop-test .taken))
 
 clear-value-requires : tie.Need-clear-value-requires Inv-loop μ-loop
 clear-value-requires c κs =
-    let a = c .before .before .before .before in (
-      grown-sized (c .before .before .loop .inv .struck .grown) (a .pre .sized),
-      a .pre .cells .inside (c .before .before .loop .p)
-          (c .before .loop-test .taken),
-      a .pre .value,
-    )
+    let b₄ = c .before .before .before .before in
+    let a = b₄ .before .before .pre in
+    (grown-sized (b₄ .loop .inv .struck .grown) (a .sized), a .cells .inside (b₄ .loop .p) (c .before .before .before .loop-test .taken), a .value)
 
 add-p : tie.Need-add-p Inv-loop μ-loop
 add-p c = search needs
