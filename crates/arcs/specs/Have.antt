@@ -6,11 +6,11 @@ use mathlib.Core.Bool.{Bool, true, false, cond}
 use mathlib.Core.List.{List}
 use lib.Bits.{bitAnd, bitOr}
 use lib.ListN.{length, getD}
+use lib.Dec.{eqb}
 use Rattle.bits.specs.Bit.{bit}
 use Rattle.lane.specs.declared.Lane.{Lane}
 use Rattle.words.specs.Word.{setOf, coveredOf}
 use Rattle.slab.specs.Layout.{slabSize}
-use lib.Dec.{eqb}
 
 -- A line of n places, from its start on.
 pub record HaveAsk (n : ℕ) (lane : Lane) (v : ℕ) (l : List ℕ) : Type 0 where

@@ -5,7 +5,6 @@ use mathlib.Core.Bool.{Bool, true, false}
 use mathlib.Core.List.{List}
 use native.Mathlib.Omega.{arith}
 use Rattle.rules.specs.Grid.{Puzzle}
-use Rattle.table.specs.Table.{left}
 use Rattle.table.specs.Reading.{choices, readOff, AllSettled}
 use Rattle.line_laws.specs.Grids.{GridOf}
 use Rattle.settled.proofs.EmptyLaws.{empty-left}

@@ -12,7 +12,7 @@ use Rattle.tally.proofs.WayLaws.{all-each, all-ways, way-map}
 use Rattle.rules.specs.Grid.{digits, lawful, untilBlack, inside, lineSum, meets, keepsLine, cell, row, column, line, lines, Puzzle, target, keeps, across}
 use Rattle.rules.proofs.GridLaws.{solution-way, way-solution}
 use Rattle.rules.specs.Mark.{rejects, markRow, markColumn, markValue, leftBlack, blackWith, has, keepsMark}
-use Rattle.rules.specs.Short.{keepsMarks, symbols}
+use Rattle.rules.specs.Short.{symbols}
 use Rattle.rules.specs.Number.{grids, solves}
 use Rattle.rules.proofs.Samples.{three}
 use Rattle.line_laws.proofs.CellValues.{half-every}

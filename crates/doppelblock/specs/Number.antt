@@ -2,6 +2,9 @@
 use Prim.Native.Nat.{ℕ, _%_}
 use mathlib.Core.Path.{_≡_}
 use mathlib.Core.List.{List, []}
+use mathlib.Core.Bool.{cond}
+use lib.Dec.{eqb}
+use lib.ListN.{length}
 use Rattle.rules.specs.Grid.{Puzzle}
 use Rattle.rules.specs.Mark.{marksOf}
 use Rattle.sheet_marking.specs.declared.Marked.{Marked}
@@ -15,9 +18,6 @@ use Rattle.engine.specs.declared.Solved.the-variants as verdicts
 use Rattle.candidates.specs.declared.Outcome.{Outcome}
 use Rattle.candidates.specs.declared.Outcome.the-variants.{Contradicted, Written}
 use Rattle.candidates.specs.declared.Outcome.the-variants as tables
-use mathlib.Core.Bool.{cond}
-use lib.Dec.{eqb}
-use lib.ListN.{length}
 use Rattle.candidates.specs.Remaining.{TableGiven}
 
 -- The number of each answer of marking: a refusal is its own number.

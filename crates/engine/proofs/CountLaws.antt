@@ -1,7 +1,7 @@
 -- The count from the search, and the answer from the count. Assumes nothing.
 use Prim.Native.Nat.{ℕ, zero, suc, _≤_, min}
 use mathlib.Core.Path.{_≡_, refl, sym, ap, _∙_}
-use mathlib.Core.Bool.{Bool, true, false, true≢false}
+use mathlib.Core.Bool.{Bool, false, true≢false}
 use mathlib.Core.List.{List}
 use native.Mathlib.Omega.{arith}
 use lib.ListN.{length}

@@ -1,7 +1,7 @@
 -- Rest: no strike waits, the queue is reset, and the table is closed. Assumes nothing.
-use Prim.Native.Nat.{ℕ, _+_, _-_, _*_, _/_, _%_, _≤_, _<_}
+use Prim.Native.Nat.{ℕ, _+_, _*_, _/_, _%_, _≤_, _<_}
 use mathlib.Core.Path.{_≡_, sym, ap, _∙_, subst}
-use mathlib.Core.Bool.{true, false, true≢false}
+use mathlib.Core.Bool.{true, true≢false}
 use mathlib.Core.Logic.{_≢_}
 use mathlib.Core.List.{List, List·Memᴰ}
 use native.Mathlib.Omega.{arith}
@@ -17,7 +17,7 @@ use Rattle.table.specs.Table.{places, firstBlack, half}
 use Rattle.settled.specs.EmptyCell.{Empty}
 use Rattle.soundness.proofs.SameLaws.{same-trans, same-ext}
 use Rattle.slab.specs.Layout.{tailAt, countersAt, slabSize}
-use Rattle.slab.specs.Slab.{cand, tableIn, tail, waits, lag, candidatesLeft}
+use Rattle.slab.specs.Slab.{cand, tableIn, tail, lag, candidatesLeft}
 use Rattle.slab.proofs.SlabLaws.{cand-lt, cand-same}
 use Rattle.slab.proofs.ReadyLaws.{lag-rest}
 use Rattle.counters.specs.Counters.{Fam, Ruled, AllSet, NoBlacks, Halves, LinePlaces, Blacks, halves, linePlaces, cellBlacks}

@@ -14,7 +14,7 @@ use Rattle.slab.specs.Ready.{Next, Moved}
 use Rattle.line_laws.proofs.CellValues.{value-range}
 use Rattle.counters.proofs.Families.{halves-moved, places-moved, blacks-moved}
 use Rattle.singles.proofs.HandlingLaws.{handling-grown}
-use Rattle.singles.specs.Handling.{Handling, SingletonAsk, SingletonDone, HiddenAsk, HiddenDone, ConsistencyAsk, ConsistencyDone}
+use Rattle.singles.specs.Handling.{SingletonAsk, SingletonDone, HiddenAsk, HiddenDone, ConsistencyAsk, ConsistencyDone}
 use Rattle.arcs.specs.Arc.{lives, Tallied, Arc, ArcAsk, ArcDone}
 use Rattle.invariants.specs.State.{Counted}
 use Rattle.invariants.proofs.StateLaws.{tallied-moved, arc-moved}

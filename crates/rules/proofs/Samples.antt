@@ -7,7 +7,6 @@ use lib.Dec.{eqb}
 use Rattle.tally.specs.Tally.{span, sum, all, count, inFront, ways, keep, join}
 use Rattle.rules.specs.Grid.{digits, lawful, untilBlack, inside, lineSum, meets, keepsLine, cell, row, column, line, lines, lawfulGrid, Puzzle, target, keeps}
 use Rattle.rules.specs.Mark.{rejects, markRow, markColumn, markValue, markSpare, blackWith, has, keepsMark, marksOf}
-use Rattle.rules.specs.Short.{keepsMarks, symbols}
 use Rattle.rules.specs.Number.{grids, solves, number, capped}
 use Rattle.rules.specs.Check.{refusal, maxTarget, named, checkLine, countChecks, solveChecks, sheetChecks, sumsChecks}
 use Rattle.rules.specs.Sums.{targetSums, sheetRight}

@@ -2,10 +2,10 @@
 use Prim.Native.Nat.{ℕ, zero, suc, _*_, min}
 use mathlib.Core.Bool.{Bool, _&&_, true}
 use mathlib.Core.List.{List, _∷_, List·Memᴰ}
+use mathlib.Core.Path.{_≡_}
 use Rattle.tally.specs.Tally.{all, count, ways}
 use Rattle.rules.specs.Grid.{black, digits, Puzzle, keeps}
 use Rattle.rules.specs.Mark.{keepsMark}
-use mathlib.Core.Path.{_≡_}
 
 -- All ways to put a black or a digit into each of the n * n cells.
 unfoldable pub grids : ℕ → List (List ℕ)

@@ -2,11 +2,11 @@
 use Prim.Native.Nat.{ℕ, zero, suc}
 use mathlib.Core.List.{List, map}
 use lib.ListN.{length}
+use mathlib.Core.Bool.{Bool, _&&_}
+use lib.Dec.{eqb}
 use Rattle.tally.specs.Tally.{span, all, join}
 use Rattle.rules.specs.Grid.{lineSum, meets, row, column, Puzzle, target, line, lines}
 use Rattle.rules.specs.Check.{refusal, checkLine, sumsChecks}
-use mathlib.Core.Bool.{Bool, _&&_}
-use lib.Dec.{eqb}
 
 -- A refusal number, and both target slices afterwards: as they were if it is not 0, else they hold the sums of the rows and of the columns.
 abbrev pub summedAs : ℕ → ℕ → List ℕ → List ℕ → List ℕ → ℕ × List ℕ × List ℕ

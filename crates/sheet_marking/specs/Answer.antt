@@ -2,14 +2,14 @@
 use Prim.Native.Nat.{ℕ, zero, suc, _*_}
 use mathlib.Core.Bool.{Bool, true, false}
 use mathlib.Core.List.{List}
+use mathlib.Core.Path.{_≡_}
+use lib.ListN.{length}
 use Rattle.rules.specs.Grid.{Puzzle}
 use Rattle.rules.specs.Check.{refusal, sheetChecks}
 use Rattle.rules.specs.CheckParts.{sizeFits}
 use Rattle.rules.specs.Sums.{sheetRight}
 use Rattle.sheet_marking.specs.declared.Marked.{Marked}
 use Rattle.sheet_marking.specs.declared.Marked.the-variants.{Refused, Right, Wrong}
-use mathlib.Core.Path.{_≡_}
-use lib.ListN.{length}
 
 -- The answer of a refusal number and a test: 0 is not refused, and the test decides.
 abbrev pub markedAs : ℕ → Bool → Marked

@@ -3,7 +3,7 @@ use Prim.Native.Nat.{ℕ, suc, _≤_, _<_}
 use mathlib.Core.Path.{_≡_, sym, _∙_, subst}
 use mathlib.Core.Bool.{true, false, true≢false}
 use mathlib.Core.Logic.{⊎-elim}
-use Rattle.rules.specs.Grid.{Puzzle, Line, index, line}
+use Rattle.rules.specs.Grid.{Puzzle, Line, index}
 use Rattle.table.specs.Table.{Table, places, firstBlack}
 use Rattle.line_laws.proofs.Lists.{false-of}
 use Rattle.line_laws.proofs.Half.{first-in, second-in}

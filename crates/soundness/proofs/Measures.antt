@@ -14,7 +14,7 @@ use Rattle.rules.proofs.GridLaws.{place-lt, place-size}
 use Rattle.rules.specs.Grid.{across}
 use Rattle.rules.specs.Mark.{leftBlack}
 use Rattle.table.specs.Table.{Table, firstBlack, half}
-use Rattle.table.specs.Steps.{struck, taken}
+use Rattle.table.specs.Steps.{taken}
 use Rattle.table.specs.Reading.{choices, openCells, total}
 use Rattle.line_laws.proofs.Pigeonhole.{sum-most}
 use Rattle.line_laws.proofs.Half.{half-once}

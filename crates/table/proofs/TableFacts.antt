@@ -9,7 +9,6 @@ use Rattle.tally.specs.Tally.{span, sum, all, any, count, inFront, ways, keep, 
 use Rattle.rules.specs.Grid.{digits, lawful, untilBlack, inside, lineSum, meets, keepsLine, cell, row, column, line, lines, target, keeps}
 use Rattle.rules.specs.Mark.{rejects}
 use Rattle.rules.specs.Number.{grids}
-use Rattle.rules.specs.Short.{symbols}
 use Rattle.table.specs.Closed.{subsets, subsetsWith, fromStarts, insides, outsides, arrangements, place, allows, lays}
 use Rattle.rules.proofs.Samples.{three}
 use Rattle.table.specs.Table.{Table, places, firstBlack, half, everyValue, own, fits, left, bitOf, hasBit, tableOf}

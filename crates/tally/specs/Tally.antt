@@ -2,7 +2,6 @@
 use Prim.Native.Nat.{ℕ, zero, suc, _+_}
 use mathlib.Core.Bool.{Bool, true, false, _&&_, _||_, cond}
 use mathlib.Core.List.{List, [], _∷_, _++_, map}
-use Rattle.tally.specs.Way.{put}
 
 -- the numbers from a on, k of them
 unfoldable pub span : ℕ → ℕ → List ℕ

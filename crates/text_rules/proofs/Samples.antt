@@ -7,7 +7,6 @@ use lib.Dec.{eqb}
 use lib.ListN.{replicate}
 use Rattle.tally.specs.Tally.{span, all, sum, count, inFront, ways}
 use Rattle.rules.specs.Grid.{digits, lawful, untilBlack, inside, lineSum, meets, keepsLine, cell, row, column, line, lines, target, keeps}
-use Rattle.rules.specs.Short.{keepsMarks, symbols}
 use Rattle.rules.specs.Number.{grids, solves, number, verdictOf}
 use Rattle.rules.specs.Check.{refusal, maxTarget}
 use Rattle.rules.proofs.Samples.{diagonal, corner}

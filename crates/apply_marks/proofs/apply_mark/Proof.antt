@@ -1,7 +1,7 @@
--- `marked::apply_mark` meets its contract. Assumes nothing.
+-- `apply_marks::apply_mark` meets its contract. Assumes nothing.
 use native.Mathlib.Omega.{arith}
-use Rattle.apply_marks.proofs.AppliedLaws.{mark-row, mark-column, mark-clears, mark-sets, mark-rejected, mark-taken}
 use borrow.Author.Needs.{needs}
+use Rattle.apply_marks.proofs.AppliedLaws.{mark-row, mark-column, mark-clears, mark-sets, mark-rejected, mark-taken}
 use Rattle.apply_marks.proofs.apply_mark.Statement.{statement}
 use Rattle.apply_marks.proofs.apply_mark.Tie as tie
 

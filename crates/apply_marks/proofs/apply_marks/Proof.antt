@@ -1,9 +1,9 @@
--- `marked::apply_marks` meets its contract. Assumes nothing.
+-- `apply_marks::apply_marks` meets its contract. Assumes nothing.
 use Prim.Native.Nat.{_≤_, _<_, _-_, _*_}
 use native.Mathlib.Omega.{arith}
 use lib.ListN.{length}
-use Rattle.apply_marks.proofs.AppliedLaws.{Halfway, marks-begin, mark-asks, marks-step, marks-done}
 use borrow.Author.Needs.{needs}
+use Rattle.apply_marks.proofs.AppliedLaws.{Halfway, marks-begin, mark-asks, marks-step, marks-done}
 use Rattle.apply_marks.proofs.apply_marks.Statement.{statement}
 use Rattle.apply_marks.proofs.apply_marks.Tie as tie
 

@@ -1,6 +1,6 @@
 -- `arcs::digit_test` meets its contract. Assumes nothing.
-use Rattle.arcs.proofs.TestLaws.{test-code}
 use borrow.Author.Needs.{needs}
+use Rattle.arcs.proofs.TestLaws.{test-code}
 use Rattle.arcs.proofs.digit_test.Statement.{statement}
 use Rattle.arcs.proofs.digit_test.Tie as tie
 

@@ -2,9 +2,9 @@
 use mathlib.Core.Path.{refl}
 use Prim.Native.Nat.{_-_}
 use native.Mathlib.Omega.{arith}
+use borrow.Author.Needs.{needs}
 use Rattle.words.specs.Word.{fromOf, toOf, steps}
 use Rattle.arcs.proofs.WalkLaws.{Walking, placed-small, walking-start, walking-ask, walking-next, walking-less, walking-end}
-use borrow.Author.Needs.{needs}
 use Rattle.arcs.proofs.drop_inner.Statement.{statement}
 use Rattle.arcs.proofs.drop_inner.Tie as tie
 

@@ -1,6 +1,6 @@
 -- `arcs::drop_support` meets its contract. Assumes nothing.
-use Rattle.arcs.proofs.SunkLaws.{drop-countable, drop-clear, drop-stays, drop-strikes}
 use borrow.Author.Needs.{needs}
+use Rattle.arcs.proofs.SunkLaws.{drop-countable, drop-clear, drop-stays, drop-strikes}
 use Rattle.arcs.proofs.drop_support.Statement.{statement}
 use Rattle.arcs.proofs.drop_support.Tie as tie
 

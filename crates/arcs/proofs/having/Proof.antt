@@ -1,8 +1,8 @@
 -- `arcs::having` meets its contract. Assumes nothing.
 use Prim.Native.Nat.{_-_}
 use native.Mathlib.Omega.{arith}
-use Rattle.arcs.proofs.HaveLaws.{Having, having-start, having-next, having-end}
 use borrow.Author.Needs.{needs}
+use Rattle.arcs.proofs.HaveLaws.{Having, having-start, having-next, having-end}
 use Rattle.arcs.proofs.having.Statement.{statement}
 use Rattle.arcs.proofs.having.Tie as tie
 

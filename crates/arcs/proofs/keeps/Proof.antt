@@ -1,6 +1,6 @@
 -- `arcs::keeps` meets its contract. Assumes nothing.
-use Rattle.arcs.proofs.HaveLaws.{test-misses, test-nowhere, test-kept, test-empty}
 use borrow.Author.Needs.{needs}
+use Rattle.arcs.proofs.HaveLaws.{test-misses, test-nowhere, test-kept, test-empty}
 use Rattle.arcs.proofs.keeps.Statement.{statement}
 use Rattle.arcs.proofs.keeps.Tie as tie
 

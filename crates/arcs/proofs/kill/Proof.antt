@@ -1,8 +1,8 @@
 -- `arcs::kill` meets its contract. Assumes nothing.
 use mathlib.Core.Path.{refl}
 use native.Mathlib.Omega.{arith}
-use Rattle.arcs.proofs.KillLaws.{kill-black, kill-from, kill-to, kill-first, kill-inner, kill-last, kill-end}
 use borrow.Author.Needs.{needs}
+use Rattle.arcs.proofs.KillLaws.{kill-black, kill-from, kill-to, kill-first, kill-inner, kill-last, kill-end}
 use Rattle.arcs.proofs.kill.Statement.{statement}
 use Rattle.arcs.proofs.kill.Tie as tie
 

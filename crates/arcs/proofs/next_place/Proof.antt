@@ -1,7 +1,7 @@
 -- `arcs::next_place` meets its contract. Assumes nothing.
 use mathlib.Core.Path.{sym}
-use Rattle.words.proofs.StepLaws.{after-wraps, after-next}
 use borrow.Author.Needs.{needs}
+use Rattle.words.proofs.StepLaws.{after-wraps, after-next}
 use Rattle.arcs.proofs.next_place.Statement.{statement}
 use Rattle.arcs.proofs.next_place.Tie as tie
 

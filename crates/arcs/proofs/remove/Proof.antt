@@ -1,6 +1,6 @@
 -- `arcs::remove` meets its contract. Assumes nothing.
-use Rattle.arcs.proofs.RemoveLaws.{remove-kill, remove-done}
 use borrow.Author.Needs.{needs}
+use Rattle.arcs.proofs.RemoveLaws.{remove-kill, remove-done}
 use Rattle.arcs.proofs.remove.Statement.{statement}
 use Rattle.arcs.proofs.remove.Tie as tie
 

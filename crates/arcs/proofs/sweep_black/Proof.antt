@@ -1,10 +1,10 @@
 -- `arcs::sweep_black` meets its contract. Assumes nothing.
 use mathlib.Core.Path.{refl}
 use Prim.Native.Nat.{_-_}
+use borrow.Author.Needs.{needs}
 use Rattle.arcs.proofs.SweepSteps.{shift-small, sweep-read, sweep-word, black-keep, black-drop}
 use Rattle.arcs.proofs.SweepLaws.{sweep-start, sweep-ask, sweep-end}
 use Rattle.arcs.specs.Sweep.{Sweeping}
-use borrow.Author.Needs.{needs}
 use Rattle.arcs.proofs.sweep_black.Statement.{statement}
 use Rattle.arcs.proofs.sweep_black.Tie as tie
 

@@ -2,11 +2,11 @@
 use mathlib.Core.Path.{refl}
 use Prim.Native.Nat.{_-_}
 use native.Mathlib.Omega.{arith}
+use borrow.Author.Needs.{needs}
 use Rattle.arcs.proofs.SweepSteps.{sweep-small, sweep-first, sweep-read, sweep-word, digit-keep, digit-drop, digit-have}
 use Rattle.arcs.proofs.SweepLaws.{sweep-line, sweep-place, sweep-start, sweep-bounds, sweep-ask, sweep-end}
 use Rattle.arcs.specs.Have.{Have}
 use Rattle.arcs.specs.Sweep.{Sweeping}
-use borrow.Author.Needs.{needs}
 use Rattle.arcs.proofs.sweep_digit.Statement.{statement}
 use Rattle.arcs.proofs.sweep_digit.Tie as tie
 

@@ -1,7 +1,7 @@
 -- `arcs::update_arc` meets its contract. Assumes nothing.
 use mathlib.Core.Logic.{inl, inr}
-use Rattle.arcs.proofs.ArcLaws.{arc-next, arc-digit, arc-row-black, arc-column-black}
 use borrow.Author.Needs.{needs}
+use Rattle.arcs.proofs.ArcLaws.{arc-next, arc-digit, arc-row-black, arc-column-black}
 use Rattle.arcs.proofs.update_arc.Statement.{statement}
 use Rattle.arcs.proofs.update_arc.Tie as tie
 

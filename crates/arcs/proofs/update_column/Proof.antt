@@ -1,8 +1,8 @@
 -- `arcs::update_column` meets its contract. Assumes nothing.
 use native.Mathlib.Omega.{arith}
+use borrow.Author.Needs.{needs}
 use Rattle.arcs.proofs.SweepLaws.{line-skipped}
 use Rattle.arcs.proofs.ArcLaws.{narrow, done-at, column-ask, arc-column}
-use borrow.Author.Needs.{needs}
 use Rattle.arcs.proofs.update_column.Statement.{statement}
 use Rattle.arcs.proofs.update_column.Tie as tie
 

@@ -1,6 +1,6 @@
 -- `arcs::update_line` meets its contract. Assumes nothing.
-use Rattle.arcs.proofs.SweepLaws.{line-swept}
 use borrow.Author.Needs.{needs}
+use Rattle.arcs.proofs.SweepLaws.{line-swept}
 use Rattle.arcs.proofs.update_line.Statement.{statement}
 use Rattle.arcs.proofs.update_line.Tie as tie
 

@@ -1,7 +1,7 @@
 -- `arcs::update_row` meets its contract. Assumes nothing.
+use borrow.Author.Needs.{needs}
 use Rattle.arcs.proofs.SweepLaws.{line-skipped}
 use Rattle.arcs.proofs.ArcLaws.{done-at, row-ask, arc-row}
-use borrow.Author.Needs.{needs}
 use Rattle.arcs.proofs.update_row.Statement.{statement}
 use Rattle.arcs.proofs.update_row.Tie as tie
 

@@ -1,19 +1,19 @@
 -- `backtrack::search` meets its contract. Assumes nothing.
 use mathlib.Core.Path.{_≡_, refl, sym, _∙_, subst}
-use mathlib.Core.Bool.{Bool, true, false, _&&_, true≢false}
+use mathlib.Core.Bool.{Bool, true, _&&_, true≢false}
 use mathlib.Core.List.{List}
 use native.Mathlib.Omega.{arith}
 use lib.Dec.{eqb}
 use lib.ListN.{length}
+use borrow.Author.Needs.{needs}
+use Prim.Native.Nat.{ℕ, _*_, _<_}
+use borrow.Fn.Kinds.{In}
+use borrow.Fn.PlainCycle.{Measures, is, falls, and}
 use Rattle.tally.proofs.TallyLaws.{and-left}
 use Rattle.backtrack.specs.Search.{Advanced, SearchAsk}
 use Rattle.table.specs.Reading.{openCells, total}
 use Rattle.slab.specs.Slab.{tableIn}
 use Rattle.backtrack.proofs.SearchLaws.{Turn, turn-start, turn-capped, turn-none, turn-one, turn-ask, turn-searchable, turn-fewer, turn-less, turn-again}
-use borrow.Author.Needs.{needs}
-use Prim.Native.Nat.{ℕ, _*_, _<_}
-use borrow.Fn.Kinds.{In}
-use borrow.Fn.PlainCycle.{Measures, is, falls, and}
 use Rattle.backtrack.proofs.search.Reads as search′
 use Rattle.backtrack.proofs.search.Kinds as search-kinds
 use Rattle.backtrack.proofs.+search.Lts-search as search-lts

@@ -1,7 +1,7 @@
 -- `candidates::candidates` meets its contract. Assumes nothing.
 use mathlib.Core.Path.{sym, _∙_}
-use Rattle.candidates.proofs.RemainingLaws.{table-refused, table-written, table-none}
 use borrow.Author.Needs.{needs}
+use Rattle.candidates.proofs.RemainingLaws.{table-refused, table-written, table-none}
 use Rattle.candidates.proofs.candidates.Statement.{statement}
 use Rattle.candidates.proofs.candidates.Tie as tie
 

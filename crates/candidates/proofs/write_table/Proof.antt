@@ -1,12 +1,12 @@
 -- `candidates::write_table` meets its contract. Assumes nothing.
 use mathlib.Core.Path.{subst}
+use borrow.Author.Tests.{not-true, not-false}
+use borrow.Author.Needs.{needs}
 use Rattle.invariants.specs.State.{Propagated}
 use Rattle.fresh.proofs.FillLaws.{blank-zeros}
 use Rattle.engine.proofs.CountLaws.{count-prepare}
 use Rattle.engine.proofs.SolveLaws.{solve-count, solve-room}
 use Rattle.candidates.proofs.RemainingLaws.{left-none, written-table, tabled-none, tabled-done}
-use borrow.Author.Tests.{not-true, not-false}
-use borrow.Author.Needs.{needs}
 use Rattle.candidates.proofs.write_table.Statement.{statement}
 use Rattle.candidates.proofs.write_table.Tie as tie
 

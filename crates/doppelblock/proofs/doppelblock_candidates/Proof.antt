@@ -4,9 +4,9 @@ use mathlib.Core.Path.{sym, ap, _∙_}
 use native.Mathlib.Omega.{arith}
 use native.Mathlib.Nat.{min-eq-left}
 use lib.ListN.{length-take}
+use borrow.Author.Needs.{needs}
 use Rattle.doppelblock.specs.Entries.{mostLent}
 use Rattle.doppelblock.proofs.EntryLaws.{entries-length}
-use borrow.Author.Needs.{needs}
 use Rattle.doppelblock.proofs.doppelblock_candidates.Statement.{statement}
 use Rattle.doppelblock.proofs.doppelblock_candidates.Tie as tie
 

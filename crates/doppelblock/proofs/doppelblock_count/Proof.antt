@@ -1,6 +1,6 @@
 -- `doppelblock::doppelblock_count` meets its contract. Assumes nothing.
-use Rattle.doppelblock.proofs.NumberLaws.{count-refused, count-done}
 use borrow.Author.Needs.{needs}
+use Rattle.doppelblock.proofs.NumberLaws.{count-refused, count-done}
 use Rattle.doppelblock.proofs.doppelblock_count.Statement.{statement}
 use Rattle.doppelblock.proofs.doppelblock_count.Tie as tie
 

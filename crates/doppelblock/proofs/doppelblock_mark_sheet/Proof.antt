@@ -1,7 +1,7 @@
 -- `doppelblock::doppelblock_mark_sheet` meets its contract. Assumes nothing.
 use mathlib.Core.Path.{ap, _∙_}
-use Rattle.doppelblock.specs.Number.{sheetNumber}
 use borrow.Author.Needs.{needs}
+use Rattle.doppelblock.specs.Number.{sheetNumber}
 use Rattle.doppelblock.proofs.doppelblock_mark_sheet.Statement.{statement}
 use Rattle.doppelblock.proofs.doppelblock_mark_sheet.Tie as tie
 

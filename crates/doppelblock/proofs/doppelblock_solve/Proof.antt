@@ -1,7 +1,7 @@
 -- `doppelblock::doppelblock_solve` meets its contract. Assumes nothing.
 use mathlib.Core.Path.{ap, _∙_}
-use Rattle.doppelblock.specs.Number.{solveNumber}
 use borrow.Author.Needs.{needs}
+use Rattle.doppelblock.specs.Number.{solveNumber}
 use Rattle.doppelblock.proofs.doppelblock_solve.Statement.{statement}
 use Rattle.doppelblock.proofs.doppelblock_solve.Tie as tie
 

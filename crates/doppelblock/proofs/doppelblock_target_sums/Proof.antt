@@ -1,9 +1,9 @@
 -- `doppelblock::doppelblock_target_sums` meets its contract. Assumes nothing.
 use mathlib.Core.Path.{ap, _∙_}
+use borrow.Author.Needs.{needs}
 use Rattle.target_sums.specs.Answer.{numberOf}
 use Rattle.target_sums.proofs.SumsLaws.{number-summed}
 use Rattle.doppelblock.proofs.NumberLaws.{sums-given}
-use borrow.Author.Needs.{needs}
 use Rattle.doppelblock.proofs.doppelblock_target_sums.Statement.{statement}
 use Rattle.doppelblock.proofs.doppelblock_target_sums.Tie as tie
 

@@ -1,6 +1,6 @@
 -- `doppelblock::entry_count` meets its contract. Assumes nothing.
-use Rattle.doppelblock.proofs.EntryLaws.{count-even, count-odd}
 use borrow.Author.Needs.{needs}
+use Rattle.doppelblock.proofs.EntryLaws.{count-even, count-odd}
 use Rattle.doppelblock.proofs.entry_count.Statement.{statement}
 use Rattle.doppelblock.proofs.entry_count.Tie as tie
 

@@ -3,8 +3,8 @@ use Prim.Native.Nat.{_-_, _≤_}
 use lib.ListN.{length, length-set}
 use mathlib.Core.Path.{refl}
 use native.Mathlib.Omega.{arith}
-use Rattle.doppelblock.proofs.EntryLaws.{EntriesFilled, filled-start, filled-next, filled-end}
 use borrow.Author.Needs.{needs}
+use Rattle.doppelblock.proofs.EntryLaws.{EntriesFilled, filled-start, filled-next, filled-end}
 use Rattle.doppelblock.proofs.write_entries.Statement.{statement}
 use Rattle.doppelblock.proofs.write_entries.Tie as tie
 

@@ -1,7 +1,7 @@
 -- `engine::count` meets its contract. Assumes nothing.
 use mathlib.Core.Path.{sym, _∙_}
-use Rattle.engine.proofs.CountLaws.{answer-refused, answer-count}
 use borrow.Author.Needs.{needs}
+use Rattle.engine.proofs.CountLaws.{answer-refused, answer-count}
 use Rattle.engine.proofs.count.Statement.{statement}
 use Rattle.engine.proofs.count.Tie as tie
 

@@ -1,8 +1,8 @@
 -- `engine::count_grids` meets its contract. Assumes nothing.
-use Rattle.fresh.proofs.FillLaws.{blank-zeros}
-use Rattle.engine.proofs.CountLaws.{count-prepare, count-none, count-search, count-found}
 use borrow.Author.Needs.{needs}
 use borrow.Author.Tests.{not-true, not-false}
+use Rattle.fresh.proofs.FillLaws.{blank-zeros}
+use Rattle.engine.proofs.CountLaws.{count-prepare, count-none, count-search, count-found}
 use Rattle.engine.proofs.count_grids.Statement.{statement}
 use Rattle.engine.proofs.count_grids.Tie as tie
 

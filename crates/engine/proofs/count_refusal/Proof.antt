@@ -1,8 +1,8 @@
 -- `engine::count_refusal` meets its contract. Assumes nothing.
-use Rattle.engine.proofs.CountLaws.{refused-puzzle, refused-marks}
-use Rattle.puzzle.proofs.PuzzleLaws.{passed-size}
 use mathlib.Core.Path.{_∙_}
 use borrow.Author.Needs.{needs}
+use Rattle.engine.proofs.CountLaws.{refused-puzzle, refused-marks}
+use Rattle.puzzle.proofs.PuzzleLaws.{passed-size}
 use Rattle.engine.proofs.count_refusal.Statement.{statement}
 use Rattle.engine.proofs.count_refusal.Tie as tie
 

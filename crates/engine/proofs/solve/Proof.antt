@@ -1,7 +1,7 @@
 -- `engine::solve` meets its contract. Assumes nothing.
 use mathlib.Core.Path.{sym, _∙_}
-use Rattle.engine.proofs.SolveLaws.{solve-refused, solve-done}
 use borrow.Author.Needs.{needs}
+use Rattle.engine.proofs.SolveLaws.{solve-refused, solve-done}
 use Rattle.engine.proofs.solve.Statement.{statement}
 use Rattle.engine.proofs.solve.Tie as tie
 

@@ -1,9 +1,9 @@
 -- `engine::solve_grids` meets its contract. Assumes nothing.
+use borrow.Author.Needs.{needs}
+use borrow.Author.Tests.{not-true, not-false}
 use Rattle.fresh.proofs.FillLaws.{blank-zeros}
 use Rattle.engine.proofs.CountLaws.{count-prepare}
 use Rattle.engine.proofs.SolveLaws.{solve-count, solve-none, solve-search, solve-found}
-use borrow.Author.Needs.{needs}
-use borrow.Author.Tests.{not-true, not-false}
 use Rattle.engine.proofs.solve_grids.Statement.{statement}
 use Rattle.engine.proofs.solve_grids.Tie as tie
 

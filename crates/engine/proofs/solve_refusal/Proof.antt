@@ -1,8 +1,8 @@
 -- `engine::solve_refusal` meets its contract. Assumes nothing.
 use native.Mathlib.Omega.{arith}
+use borrow.Author.Needs.{needs}
 use Rattle.rules.specs.Size.{Size}
 use Rattle.engine.proofs.SolveLaws.{refused-count, refused-7, refused-0, refused-small}
-use borrow.Author.Needs.{needs}
 use Rattle.engine.proofs.solve_refusal.Statement.{statement}
 use Rattle.engine.proofs.solve_refusal.Tie as tie
 

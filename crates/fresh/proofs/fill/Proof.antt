@@ -1,10 +1,10 @@
 -- `fresh::fill` meets its contract: the places below i are filled. Assumes nothing.
 use mathlib.Core.Path.{_≡_}
-use Rattle.fresh.proofs.FillLaws.{fill-start, fill-next}
-use Rattle.fresh.specs.Fresh.{Filled}
 use native.Mathlib.Omega.{arith}
 use Prim.Native.Nat.{_≤_, _-_}
 use borrow.Author.Needs.{needs}
+use Rattle.fresh.proofs.FillLaws.{fill-start, fill-next}
+use Rattle.fresh.specs.Fresh.{Filled}
 use Rattle.fresh.proofs.fill.Statement.{statement}
 use Rattle.fresh.proofs.fill.Tie as tie
 

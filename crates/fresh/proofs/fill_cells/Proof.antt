@@ -1,10 +1,10 @@
 -- `fresh::fill_cells` meets its contract: the first r rows are full. Assumes nothing.
-use Rattle.fresh.proofs.FillLaws.{rows-start, rows-next}
-use Rattle.fresh.specs.Fresh.{RowsFull}
 use native.Mathlib.Omega.{arith}
 use mathlib.Core.Path.{_≡_}
 use Prim.Native.Nat.{_≤_, _-_}
 use borrow.Author.Needs.{needs}
+use Rattle.fresh.proofs.FillLaws.{rows-start, rows-next}
+use Rattle.fresh.specs.Fresh.{RowsFull}
 use Rattle.fresh.proofs.fill_cells.Statement.{statement}
 use Rattle.fresh.proofs.fill_cells.Tie as tie
 

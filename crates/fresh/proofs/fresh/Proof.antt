@@ -1,6 +1,6 @@
 -- `fresh::fresh` meets its contract. Assumes nothing.
-use Rattle.fresh.proofs.FillLaws.{fresh-done}
 use borrow.Author.Needs.{needs}
+use Rattle.fresh.proofs.FillLaws.{fresh-done}
 use Rattle.fresh.proofs.fresh.Statement.{statement}
 use Rattle.fresh.proofs.fresh.Tie as tie
 

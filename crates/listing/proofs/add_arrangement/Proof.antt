@@ -1,8 +1,8 @@
 -- `listing::add_arrangement` meets its contract. Assumes nothing.
-use Rattle.listing.proofs.AddLaws.{add-ask, add-done}
 use lib.ListN.{length-set}
 use native.Mathlib.Omega.{arith}
 use borrow.Author.Needs.{needs}
+use Rattle.listing.proofs.AddLaws.{add-ask, add-done}
 use Rattle.listing.proofs.add_arrangement.Statement.{statement}
 use Rattle.listing.proofs.add_arrangement.Tie as tie
 

@@ -1,7 +1,7 @@
 -- `listing::add_support` meets its contract. Assumes nothing.
-use Rattle.listing.proofs.RaiseLaws.{word-first, word-second, word-inner, word-raised}
 use mathlib.Core.Path.{refl}
 use borrow.Author.Needs.{needs}
+use Rattle.listing.proofs.RaiseLaws.{word-first, word-second, word-inner, word-raised}
 use Rattle.listing.proofs.add_support.Statement.{statement}
 use Rattle.listing.proofs.add_support.Tie as tie
 

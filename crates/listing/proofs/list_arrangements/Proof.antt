@@ -1,6 +1,6 @@
 -- `listing::list_arrangements` meets its contract. Assumes nothing.
-use Rattle.listing.proofs.LineLaws.{rows-ask, columns-ask, all-arranged}
 use borrow.Author.Needs.{needs}
+use Rattle.listing.proofs.LineLaws.{rows-ask, columns-ask, all-arranged}
 use Rattle.listing.proofs.list_arrangements.Statement.{statement}
 use Rattle.listing.proofs.list_arrangements.Tie as tie
 

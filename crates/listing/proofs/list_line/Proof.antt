@@ -1,6 +1,6 @@
 -- `listing::list_line` meets its contract. Assumes nothing.
-use Rattle.listing.proofs.LineLaws.{inside-ask, outside-ask, line-added}
 use borrow.Author.Needs.{needs}
+use Rattle.listing.proofs.LineLaws.{inside-ask, outside-ask, line-added}
 use Rattle.listing.proofs.list_line.Statement.{statement}
 use Rattle.listing.proofs.list_line.Tie as tie
 

@@ -1,10 +1,10 @@
 -- `listing::list_lines` meets its contract. Assumes nothing.
-use Rattle.listing.proofs.LineLaws.{lines-start, lines-ask, lines-next}
-use Rattle.listing.specs.Listing.{LinesTo}
 use native.Mathlib.Omega.{arith}
 use mathlib.Core.Path.{_≡_}
 use Prim.Native.Nat.{_≤_, _-_}
 use borrow.Author.Needs.{needs}
+use Rattle.listing.proofs.LineLaws.{lines-start, lines-ask, lines-next}
+use Rattle.listing.specs.Listing.{LinesTo}
 use Rattle.listing.proofs.list_lines.Statement.{statement}
 use Rattle.listing.proofs.list_lines.Tie as tie
 

@@ -1,6 +1,6 @@
 -- `listing::list_side` meets its contract. Assumes nothing.
-use Rattle.listing.proofs.AddLaws.{sum-ask, sum-added}
 use borrow.Author.Needs.{needs}
+use Rattle.listing.proofs.AddLaws.{sum-ask, sum-added}
 use Rattle.listing.proofs.list_side.Statement.{statement}
 use Rattle.listing.proofs.list_side.Tie as tie
 

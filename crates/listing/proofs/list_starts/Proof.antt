@@ -1,10 +1,10 @@
 -- `listing::list_starts` meets its contract. Assumes nothing.
-use Rattle.listing.proofs.AddLaws.{adding-start, starts-ask, starts-next, starts-skip, starts-end}
-use Rattle.listing.specs.Listing.{Adding}
-use Rattle.listing.specs.Numbers.{startsFrom}
 use mathlib.Core.Logic.{⊎-elim}
 use Prim.Native.Nat.{_-_}
 use borrow.Author.Needs.{needs}
+use Rattle.listing.proofs.AddLaws.{adding-start, starts-ask, starts-next, starts-skip, starts-end}
+use Rattle.listing.specs.Listing.{Adding}
+use Rattle.listing.specs.Numbers.{startsFrom}
 use Rattle.listing.proofs.list_starts.Statement.{statement}
 use Rattle.listing.proofs.list_starts.Tie as tie
 

@@ -1,11 +1,11 @@
 -- `listing::list_subsets` meets its contract. Assumes nothing.
+use mathlib.Core.Logic.{⊎-elim}
+use Prim.Native.Nat.{_-_}
+use borrow.Author.Needs.{needs}
 use Rattle.listing.proofs.AddLaws.{adding-start, side-ask, side-next, side-skip, side-end}
 use Rattle.listing.specs.Listing.{Adding}
 use Rattle.listing.specs.Numbers.{sideFrom}
 use Rattle.words.specs.Word.{subset, subsetTable}
-use mathlib.Core.Logic.{⊎-elim}
-use Prim.Native.Nat.{_-_}
-use borrow.Author.Needs.{needs}
 use Rattle.listing.proofs.list_subsets.Statement.{statement}
 use Rattle.listing.proofs.list_subsets.Tie as tie
 

@@ -1,6 +1,6 @@
 -- `listing::on_side` meets its contract. Assumes nothing.
-use Rattle.listing.proofs.AddLaws.{side-out, side-in}
 use borrow.Author.Needs.{needs}
+use Rattle.listing.proofs.AddLaws.{side-out, side-in}
 use Rattle.listing.proofs.on_side.Statement.{statement}
 use Rattle.listing.proofs.on_side.Tie as tie
 

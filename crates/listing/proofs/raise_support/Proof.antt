@@ -1,6 +1,6 @@
 -- `listing::raise_support` meets its contract. Assumes nothing.
-use Rattle.listing.proofs.RaiseLaws.{raise-done}
 use borrow.Author.Needs.{needs}
+use Rattle.listing.proofs.RaiseLaws.{raise-done}
 use Rattle.listing.proofs.raise_support.Statement.{statement}
 use Rattle.listing.proofs.raise_support.Tie as tie
 

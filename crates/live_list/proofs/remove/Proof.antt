@@ -1,6 +1,6 @@
 -- `live_list::remove` meets its contract. Assumes nothing.
-use Rattle.live_list.proofs.SwapLaws.{two-exchanged}
 use borrow.Author.Needs.{needs}
+use Rattle.live_list.proofs.SwapLaws.{two-exchanged}
 use Rattle.live_list.proofs.remove.Statement.{statement}
 use Rattle.live_list.proofs.remove.Tie as tie
 

@@ -1,8 +1,8 @@
--- `marks::mark_at` meets its contract. Assumes nothing.
+-- `mark_list::mark_at` meets its contract. Assumes nothing.
 use Prim.Native.Nat.{_+_, _*_}
 use native.Mathlib.Omega.{arith}
-use Rattle.mark_list.proofs.MarkLaws.{word-whole, word-half}
 use borrow.Author.Needs.{needs}
+use Rattle.mark_list.proofs.MarkLaws.{word-whole, word-half}
 use Rattle.mark_list.proofs.mark_at.Statement.{statement}
 use Rattle.mark_list.proofs.mark_at.Tie as tie
 

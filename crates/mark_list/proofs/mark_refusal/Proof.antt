@@ -1,6 +1,6 @@
--- `marks::mark_refusal` meets its contract. Assumes nothing.
-use Rattle.mark_list.proofs.MarkLaws.{mark-4, mark-5-row, mark-5-column, mark-0, mark-6}
+-- `mark_list::mark_refusal` meets its contract. Assumes nothing.
 use borrow.Author.Needs.{needs}
+use Rattle.mark_list.proofs.MarkLaws.{mark-4, mark-5-row, mark-5-column, mark-0, mark-6}
 use Rattle.mark_list.proofs.mark_refusal.Statement.{statement}
 use Rattle.mark_list.proofs.mark_refusal.Tie as tie
 

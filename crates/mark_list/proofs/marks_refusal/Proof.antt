@@ -1,13 +1,13 @@
--- `marks::marks_refusal` meets its contract. Assumes nothing.
+-- `mark_list::marks_refusal` meets its contract. Assumes nothing.
 use Prim.Native.Nat.{_≤_, _<_, _-_, _*_}
 use mathlib.Core.Path.{_≡_, refl, sym, ap, _∙_}
 use native.Mathlib.Omega.{arith}
 use lib.ListN.{length, drop}
+use borrow.Author.Needs.{needs}
 use Rattle.rules.specs.Mark.{marksOf}
 use Rattle.rules.specs.Check.{refusal, checkMark}
 use Rattle.rules.specs.CheckParts.{markChecks}
 use Rattle.mark_list.proofs.MarkLaws.{list-stop, list-skip, list-end}
-use borrow.Author.Needs.{needs}
 use Rattle.mark_list.proofs.marks_refusal.Statement.{statement}
 use Rattle.mark_list.proofs.marks_refusal.Tie as tie
 

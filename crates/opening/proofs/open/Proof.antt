@@ -1,6 +1,6 @@
 -- `opening::open` meets its contract. Assumes nothing.
-use Rattle.opening.proofs.OpenLaws.{seed-ask, opened}
 use borrow.Author.Needs.{needs}
+use Rattle.opening.proofs.OpenLaws.{seed-ask, opened}
 use Rattle.opening.proofs.open.Statement.{statement}
 use Rattle.opening.proofs.open.Tie as tie
 

@@ -1,6 +1,6 @@
 -- `opening::seed_cell` meets its contract. Assumes nothing.
-use Rattle.opening.proofs.SeedLaws.{cell-struck}
 use borrow.Author.Needs.{needs}
+use Rattle.opening.proofs.SeedLaws.{cell-struck}
 use Rattle.opening.proofs.seed_cell.Statement.{statement}
 use Rattle.opening.proofs.seed_cell.Tie as tie
 

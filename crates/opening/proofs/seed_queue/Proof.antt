@@ -1,11 +1,11 @@
 -- `opening::seed_queue` meets its contract. Assumes nothing.
-use Rattle.opening.proofs.SeedLaws.{queue-start, queue-next}
-use Rattle.opening.specs.Opening.{BareTo}
-use Rattle.slab.specs.Slab.{Struck}
 use native.Mathlib.Omega.{arith}
 use mathlib.Core.Path.{_≡_}
 use Prim.Native.Nat.{_≤_, _-_}
 use borrow.Author.Needs.{needs}
+use Rattle.opening.proofs.SeedLaws.{queue-start, queue-next}
+use Rattle.opening.specs.Opening.{BareTo}
+use Rattle.slab.specs.Slab.{Struck}
 use Rattle.opening.proofs.seed_queue.Statement.{statement}
 use Rattle.opening.proofs.seed_queue.Tie as tie
 

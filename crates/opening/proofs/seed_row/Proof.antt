@@ -1,11 +1,11 @@
 -- `opening::seed_row` meets its contract. Assumes nothing.
-use Rattle.opening.proofs.SeedLaws.{row-start, row-next}
-use Rattle.opening.specs.Opening.{BareIn}
-use Rattle.slab.specs.Slab.{Struck}
 use native.Mathlib.Omega.{arith}
 use mathlib.Core.Path.{_≡_}
 use Prim.Native.Nat.{_≤_, _-_}
 use borrow.Author.Needs.{needs}
+use Rattle.opening.proofs.SeedLaws.{row-start, row-next}
+use Rattle.opening.specs.Opening.{BareIn}
+use Rattle.slab.specs.Slab.{Struck}
 use Rattle.opening.proofs.seed_row.Statement.{statement}
 use Rattle.opening.proofs.seed_row.Tie as tie
 

@@ -1,6 +1,6 @@
 -- `pick::look` meets its contract. Assumes nothing.
-use Rattle.pick.specs.Scanning.{settled, worse, better}
 use borrow.Author.Needs.{needs}
+use Rattle.pick.specs.Scanning.{settled, worse, better}
 use Rattle.pick.proofs.look.Statement.{statement}
 use Rattle.pick.proofs.look.Tie as tie
 

@@ -2,9 +2,9 @@
 use Prim.Native.Nat.{_+_, _-_, _*_, _≤_}
 use mathlib.Core.Path.{_≡_}
 use native.Mathlib.Omega.{arith}
+use borrow.Author.Needs.{needs}
 use Rattle.pick.proofs.ScanningLaws.{sought-start, sought-early}
 use Rattle.pick.specs.Scanning.{Sought}
-use borrow.Author.Needs.{needs}
 use Rattle.pick.proofs.pick_cell.Statement.{statement}
 use Rattle.pick.proofs.pick_cell.Tie as tie
 

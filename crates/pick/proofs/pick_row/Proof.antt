@@ -3,9 +3,9 @@ use Prim.Native.Nat.{_+_, _-_, _*_, _≤_}
 use mathlib.Core.Path.{_≡_}
 use native.Mathlib.Nat.{add-zero}
 use native.Mathlib.Omega.{arith}
+use borrow.Author.Needs.{needs}
 use Rattle.pick.proofs.ScanningLaws.{sought-next, sought-row, sought-early}
 use Rattle.pick.specs.Scanning.{Sought}
-use borrow.Author.Needs.{needs}
 use Rattle.pick.proofs.pick_row.Statement.{statement}
 use Rattle.pick.proofs.pick_row.Tie as tie
 

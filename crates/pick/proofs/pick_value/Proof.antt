@@ -1,8 +1,8 @@
 -- `pick::pick_value` meets its contract: the best of the candidates that were looked at. Assumes nothing.
 use native.Mathlib.Omega.{arith}
 use mathlib.Core.Logic.{⊎-elim}
-use Rattle.pick.proofs.ValueLaws.{Choosing, choosing-start, choosing-value, choosing-candidate, choosing-enough, choosing-less, choosing-next}
 use borrow.Author.Needs.{needs, fits-under}
+use Rattle.pick.proofs.ValueLaws.{Choosing, choosing-start, choosing-value, choosing-candidate, choosing-enough, choosing-less, choosing-next}
 use Rattle.pick.proofs.pick_value.Statement.{statement}
 use Rattle.pick.proofs.pick_value.Tie as tie
 

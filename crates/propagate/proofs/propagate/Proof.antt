@@ -1,12 +1,12 @@
 -- `propagate::propagate` meets its contract. Assumes nothing.
 use native.Mathlib.Omega.{arith}
 use Prim.Native.Nat.{_-_, _/_}
-use Rattle.slab.specs.Layout.{queueRoom, entryPlace}
-use Rattle.propagate.proofs.Loop.{Propagating, loop-start, loop-size, loop-tail, loop-cell, loop-ask, loop-empty, loop-next}
-use Rattle.propagate.proofs.Rest.{loop-end}
 use mathlib.Core.Path.{refl}
 use lib.ListN.{getD}
 use borrow.Author.Needs.{needs, fits-under}
+use Rattle.slab.specs.Layout.{queueRoom, entryPlace}
+use Rattle.propagate.proofs.Loop.{Propagating, loop-start, loop-size, loop-tail, loop-cell, loop-ask, loop-empty, loop-next}
+use Rattle.propagate.proofs.Rest.{loop-end}
 use Rattle.propagate.proofs.propagate.Statement.{statement}
 use Rattle.propagate.proofs.propagate.Tie as tie
 use Rattle.propagate.proofs.propagate.Reads as reads

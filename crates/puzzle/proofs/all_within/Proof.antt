@@ -5,9 +5,9 @@ use native.Mathlib.Omega.{arith}
 use lib.Dec.{leb}
 use lib.ListN.{length, getD, drop}
 use borrow.Author.Tests.{le-leb, lt-leb}
+use borrow.Author.Needs.{needs}
 use Rattle.tally.specs.Tally.{all}
 use Rattle.rules.proofs.EachLaws.{list-yes, list-no, list-end}
-use borrow.Author.Needs.{needs}
 use Rattle.puzzle.proofs.all_within.Statement.{statement}
 use Rattle.puzzle.proofs.all_within.Tie as tie
 

@@ -3,8 +3,8 @@ use Prim.Native.Nat.{_-_}
 use mathlib.Core.Path.{refl}
 use native.Mathlib.Omega.{arith}
 use native.Mathlib.Nat.{mul-le-mul}
-use Rattle.rules.specs.Check.{maxTarget}
 use borrow.Author.Needs.{needs}
+use Rattle.rules.specs.Check.{maxTarget}
 use Rattle.puzzle.proofs.max_target.Statement.{statement}
 use Rattle.puzzle.proofs.max_target.Tie as tie
 

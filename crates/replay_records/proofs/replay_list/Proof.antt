@@ -2,8 +2,8 @@
 use Prim.Native.Nat.{_-_, _≤_}
 use native.Mathlib.Omega.{arith}
 use lib.ListN.{length}
-use Rattle.replay_records.proofs.ReplayLaws.{Completes, tallied-begin, tallied-end, replayed-onward, tallied-more}
 use borrow.Author.Needs.{needs}
+use Rattle.replay_records.proofs.ReplayLaws.{Completes, tallied-begin, tallied-end, replayed-onward, tallied-more}
 use Rattle.replay_records.proofs.replay_list.Statement.{statement}
 use Rattle.replay_records.proofs.replay_list.Tie as tie
 

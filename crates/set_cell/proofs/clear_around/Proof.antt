@@ -1,9 +1,9 @@
 -- `set_cell::clear_around` meets its contract. Assumes nothing.
 use native.Mathlib.Omega.{arith}
+use borrow.Author.Needs.{needs}
 use Rattle.slab.proofs.StruckLaws.{struck-both}
 use Rattle.set_cell.proofs.SetLaws.{ask-grown, ask-row, ask-column, some-struck, none-struck}
 use Rattle.set_cell.proofs.RunLaws.{sides-at}
-use borrow.Author.Needs.{needs}
 use Rattle.set_cell.proofs.clear_around.Statement.{statement}
 use Rattle.set_cell.proofs.clear_around.Tie as tie
 

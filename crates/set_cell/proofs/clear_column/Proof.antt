@@ -1,7 +1,7 @@
 -- `set_cell::clear_column` meets its contract. Assumes nothing.
+use borrow.Author.Needs.{needs}
 use Rattle.set_cell.proofs.SetLaws.{ask-narrow, ask-column, test-struck, test-none}
 use Rattle.set_cell.proofs.RunLaws.{sides-at}
-use borrow.Author.Needs.{needs}
 use Rattle.set_cell.proofs.clear_column.Statement.{statement}
 use Rattle.set_cell.proofs.clear_column.Tie as tie
 

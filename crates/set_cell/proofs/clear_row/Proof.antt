@@ -1,7 +1,7 @@
 -- `set_cell::clear_row` meets its contract. Assumes nothing.
+use borrow.Author.Needs.{needs}
 use Rattle.set_cell.proofs.SetLaws.{ask-narrow, ask-row, test-struck, test-none}
 use Rattle.set_cell.proofs.RunLaws.{sides-at}
-use borrow.Author.Needs.{needs}
 use Rattle.set_cell.proofs.clear_row.Statement.{statement}
 use Rattle.set_cell.proofs.clear_row.Tie as tie
 

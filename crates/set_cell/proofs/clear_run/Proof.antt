@@ -1,10 +1,10 @@
 -- `set_cell::clear_run` meets its contract. Assumes nothing.
 use Prim.Native.Nat.{_-_}
 use native.Mathlib.Omega.{arith}
+use borrow.Author.Needs.{needs}
 use Rattle.slab.proofs.StruckLaws.{grown-sized}
 use Rattle.set_cell.proofs.RunLaws.{running-start, running-next, running-end}
 use Rattle.set_cell.specs.Run.{Running}
-use borrow.Author.Needs.{needs}
 use Rattle.set_cell.proofs.clear_run.Statement.{statement}
 use Rattle.set_cell.proofs.clear_run.Tie as tie
 

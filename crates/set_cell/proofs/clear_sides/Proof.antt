@@ -1,7 +1,7 @@
 -- `set_cell::clear_sides` meets its contract. Assumes nothing.
+use borrow.Author.Needs.{needs}
 use Rattle.slab.proofs.StruckLaws.{struck-both}
 use Rattle.set_cell.proofs.RunLaws.{sides-before, sides-behind}
-use borrow.Author.Needs.{needs}
 use Rattle.set_cell.proofs.clear_sides.Statement.{statement}
 use Rattle.set_cell.proofs.clear_sides.Tie as tie
 

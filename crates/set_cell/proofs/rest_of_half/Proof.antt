@@ -1,7 +1,7 @@
 -- `set_cell::rest_of_half` meets its contract. Assumes nothing.
 use native.Mathlib.Omega.{arith}
-use Rattle.set_cell.proofs.SettingLaws.{rest-digit, rest-row, rest-column, shl-most}
 use borrow.Author.Needs.{needs}
+use Rattle.set_cell.proofs.SettingLaws.{rest-digit, rest-row, rest-column, shl-most}
 use Rattle.set_cell.proofs.rest_of_half.Statement.{statement}
 use Rattle.set_cell.proofs.rest_of_half.Tie as tie
 

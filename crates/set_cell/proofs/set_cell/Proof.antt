@@ -1,6 +1,6 @@
 -- `set_cell::set_cell` meets its contract. Assumes nothing.
-use Rattle.set_cell.proofs.SetLaws.{ask-grown, ask-value, set-struck}
 use borrow.Author.Needs.{needs}
+use Rattle.set_cell.proofs.SetLaws.{ask-grown, ask-value, set-struck}
 use Rattle.set_cell.proofs.set_cell.Statement.{statement}
 use Rattle.set_cell.proofs.set_cell.Tie as tie
 

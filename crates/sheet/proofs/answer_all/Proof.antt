@@ -2,8 +2,8 @@
 use Prim.Native.Nat.{_≤_}
 use mathlib.Core.Path.{_≡_}
 use lib.ListN.{length}
-use Rattle.text_stream.specs.Stream.{KeptFits}
 use borrow.Author.Needs.{needs}
+use Rattle.text_stream.specs.Stream.{KeptFits}
 use Rattle.sheet.proofs.answer_all.Statement.{statement}
 use Rattle.sheet.proofs.answer_all.Tie as tie
 

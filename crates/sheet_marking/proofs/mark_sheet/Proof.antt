@@ -1,6 +1,6 @@
--- `marking::mark_sheet` meets its contract. Assumes nothing.
-use Rattle.sheet_marking.proofs.MarkingLaws.{fit, marked-refused, marked-right, marked-wrong}
+-- `sheet_marking::mark_sheet` meets its contract. Assumes nothing.
 use borrow.Author.Needs.{needs}
+use Rattle.sheet_marking.proofs.MarkingLaws.{fit, marked-refused, marked-right, marked-wrong}
 use Rattle.sheet_marking.proofs.mark_sheet.Statement.{statement}
 use Rattle.sheet_marking.proofs.mark_sheet.Tie as tie
 

@@ -1,6 +1,6 @@
--- `marking::meets_target` meets its contract. Assumes nothing.
-use Rattle.rules.specs.Grid.{meets}
+-- `sheet_marking::meets_target` meets its contract. Assumes nothing.
 use borrow.Author.Needs.{needs}
+use Rattle.rules.specs.Grid.{meets}
 use Rattle.sheet_marking.proofs.meets_target.Statement.{statement}
 use Rattle.sheet_marking.proofs.meets_target.Tie as tie
 

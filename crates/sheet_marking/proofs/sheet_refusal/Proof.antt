@@ -1,4 +1,4 @@
--- `marking::sheet_refusal` meets its contract: the checks' laws, in their order. Assumes nothing.
+-- `sheet_marking::sheet_refusal` meets its contract: the checks' laws, in their order. Assumes nothing.
 use native.Mathlib.Omega.{arith}
 use borrow.Author.Needs.{needs}
 use Rattle.rules.specs.Size.{Size}

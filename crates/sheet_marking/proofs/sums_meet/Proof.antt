@@ -1,13 +1,13 @@
--- `marking::sums_meet` meets its contract: the lines from i on decide. Assumes nothing.
+-- `sheet_marking::sums_meet` meets its contract: the lines from i on decide. Assumes nothing.
 use Prim.Native.Nat.{_≤_, _-_}
 use mathlib.Core.Path.{_≡_, sym, ap, _∙_}
 use native.Mathlib.Omega.{arith}
 use borrow.Author.Tests.{not-true, not-false}
+use borrow.Author.Needs.{needs}
 use Rattle.tally.specs.Tally.{all, span}
 use Rattle.rules.specs.Grid.{meets}
 use Rattle.rules.proofs.EachLaws.{below-yes, below-no, below-end}
 use Rattle.sheet_marking.proofs.MarkingLaws.{meetsAt}
-use borrow.Author.Needs.{needs}
 use Rattle.sheet_marking.proofs.sums_meet.Statement.{statement}
 use Rattle.sheet_marking.proofs.sums_meet.Tie as tie
 

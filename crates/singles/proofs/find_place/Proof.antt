@@ -1,8 +1,8 @@
 -- `singles::find_place` meets its contract. Assumes nothing.
 use Prim.Native.Nat.{_-_}
 use native.Mathlib.Omega.{arith}
-use Rattle.singles.proofs.FindLaws.{Finding, finding-start, finding-next, finding-here, finding-end}
 use borrow.Author.Needs.{needs}
+use Rattle.singles.proofs.FindLaws.{Finding, finding-start, finding-next, finding-here, finding-end}
 use Rattle.singles.proofs.find_place.Statement.{statement}
 use Rattle.singles.proofs.find_place.Tie as tie
 

@@ -1,6 +1,6 @@
 -- `singles::is_black` meets its contract. Assumes nothing.
-use Rattle.singles.proofs.BlackLaws.{below-blacks, from-blacks}
 use borrow.Author.Needs.{needs}
+use Rattle.singles.proofs.BlackLaws.{below-blacks, from-blacks}
 use Rattle.singles.proofs.is_black.Statement.{statement}
 use Rattle.singles.proofs.is_black.Tie as tie
 

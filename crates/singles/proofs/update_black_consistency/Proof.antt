@@ -1,6 +1,6 @@
 -- `singles::update_black_consistency` meets its contract. Assumes nothing.
-use Rattle.singles.proofs.ConsistencyLaws.{row-blacks-ask, column-blacks-ask, consistency-done}
 use borrow.Author.Needs.{needs}
+use Rattle.singles.proofs.ConsistencyLaws.{row-blacks-ask, column-blacks-ask, consistency-done}
 use Rattle.singles.proofs.update_black_consistency.Statement.{statement}
 use Rattle.singles.proofs.update_black_consistency.Tie as tie
 

@@ -1,6 +1,6 @@
 -- `singles::update_blacks` meets its contract. Assumes nothing.
-use Rattle.singles.proofs.BlackLaws.{blacks-cell, blacks-passed, blacks-lower, blacks-more, blacks-sized, blacks-struck}
 use borrow.Author.Needs.{needs}
+use Rattle.singles.proofs.BlackLaws.{blacks-cell, blacks-passed, blacks-lower, blacks-more, blacks-sized, blacks-struck}
 use Rattle.singles.proofs.update_blacks.Statement.{statement}
 use Rattle.singles.proofs.update_blacks.Tie as tie
 

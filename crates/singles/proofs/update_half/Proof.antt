@@ -1,8 +1,8 @@
 -- `singles::update_half` meets its contract. Assumes nothing.
 use native.Mathlib.Omega.{arith}
+use borrow.Author.Needs.{needs, fits-under}
 use Rattle.set_cell.proofs.SetLaws.{ask-value}
 use Rattle.singles.proofs.HalfLaws.{half-cell, half-passed, half-lower, half-more, half-empty, half-set-ask, half-settled}
-use borrow.Author.Needs.{needs, fits-under}
 use Rattle.singles.proofs.update_half.Statement.{statement}
 use Rattle.singles.proofs.update_half.Tie as tie
 

@@ -1,7 +1,7 @@
 -- `singles::update_hidden_singles` meets its contract. Assumes nothing.
 use native.Mathlib.Omega.{arith}
-use Rattle.singles.proofs.HiddenLaws.{row-end, column-end, row-places-ask, column-places-ask, hidden-done}
 use borrow.Author.Needs.{needs}
+use Rattle.singles.proofs.HiddenLaws.{row-end, column-end, row-places-ask, column-places-ask, hidden-done}
 use Rattle.singles.proofs.update_hidden_singles.Statement.{statement}
 use Rattle.singles.proofs.update_hidden_singles.Tie as tie
 

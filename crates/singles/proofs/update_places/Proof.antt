@@ -1,7 +1,7 @@
 -- `singles::update_places` meets its contract. Assumes nothing.
 use native.Mathlib.Omega.{arith}
-use Rattle.singles.proofs.PlaceLaws.{places-passed, places-lower, places-more, find-ask, places-empty, place-set-ask, place-cell, place-settled}
 use borrow.Author.Needs.{needs}
+use Rattle.singles.proofs.PlaceLaws.{places-passed, places-lower, places-more, find-ask, places-empty, place-set-ask, place-cell, place-settled}
 use Rattle.singles.proofs.update_places.Statement.{statement}
 use Rattle.singles.proofs.update_places.Tie as tie
 

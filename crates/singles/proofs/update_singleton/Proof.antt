@@ -1,6 +1,6 @@
 -- `singles::update_singleton` meets its contract. Assumes nothing.
-use Rattle.singles.proofs.SingletonLaws.{row-half-ask, column-half-ask, singleton-done}
 use borrow.Author.Needs.{needs}
+use Rattle.singles.proofs.SingletonLaws.{row-half-ask, column-half-ask, singleton-done}
 use Rattle.singles.proofs.update_singleton.Statement.{statement}
 use Rattle.singles.proofs.update_singleton.Tie as tie
 

@@ -1,6 +1,6 @@
 -- `slab::clear_mask` meets its contract. Assumes nothing.
-use Rattle.slab.proofs.ClearLaws.{Clearing, clearing-start, clearing-value, clearing-strikable, clearing-enough, clearing-less, clearing-next, clearing-end}
 use borrow.Author.Needs.{needs, fits-under}
+use Rattle.slab.proofs.ClearLaws.{Clearing, clearing-start, clearing-value, clearing-strikable, clearing-enough, clearing-less, clearing-next, clearing-end}
 use Rattle.slab.proofs.clear_mask.Statement.{statement}
 use Rattle.slab.proofs.clear_mask.Tie as tie
 

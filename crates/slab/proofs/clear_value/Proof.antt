@@ -1,7 +1,7 @@
 -- `slab::clear_value` meets its contract. Assumes nothing.
+use borrow.Author.Needs.{needs}
 use Rattle.bits.specs.Bit.{bit}
 use Rattle.slab.proofs.SlabLaws.{strike-absent}
-use borrow.Author.Needs.{needs}
 use Rattle.slab.proofs.clear_value.Statement.{statement}
 use Rattle.slab.proofs.clear_value.Tie as tie
 

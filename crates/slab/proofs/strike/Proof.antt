@@ -1,8 +1,8 @@
 -- `slab::strike` meets its contract. Assumes nothing.
 use native.Mathlib.Omega.{arith}
 use lib.ListN.{length-set}
-use Rattle.slab.proofs.SlabLaws.{strike-enough, strike-room, strike-done}
 use borrow.Author.Needs.{needs}
+use Rattle.slab.proofs.SlabLaws.{strike-enough, strike-room, strike-done}
 use Rattle.slab.proofs.strike.Statement.{statement}
 use Rattle.slab.proofs.strike.Tie as tie
 

@@ -1,4 +1,4 @@
--- `grid::add_cell` meets its contract. Assumes nothing.
+-- `target_sums::add_cell` meets its contract. Assumes nothing.
 use mathlib.Core.Path.{refl}
 use native.Mathlib.Omega.{arith}
 use borrow.Author.Needs.{needs}

@@ -1,4 +1,4 @@
--- `grid::compute_targets` meets its contract. Assumes nothing.
+-- `target_sums::compute_targets` meets its contract. Assumes nothing.
 use borrow.Author.Needs.{needs}
 use Rattle.target_sums.proofs.SumsLaws.{rows-ready, columns-ready, refused, done}
 use Rattle.target_sums.proofs.compute_targets.Statement.{statement}

@@ -1,6 +1,6 @@
--- `grid::line_refusal` meets its contract. Assumes nothing.
-use Rattle.target_sums.proofs.LineLaws.{line-8, line-9, line-10, line-0}
+-- `target_sums::line_refusal` meets its contract. Assumes nothing.
 use borrow.Author.Needs.{needs}
+use Rattle.target_sums.proofs.LineLaws.{line-8, line-9, line-10, line-0}
 use Rattle.target_sums.proofs.line_refusal.Statement.{statement}
 use Rattle.target_sums.proofs.line_refusal.Tie as tie
 

@@ -1,11 +1,11 @@
--- `grid::lines_refusal` meets its contract: the refusal is that of the lines from i on. Assumes nothing.
+-- `target_sums::lines_refusal` meets its contract: the refusal is that of the lines from i on. Assumes nothing.
 use Prim.Native.Nat.{_≤_, _-_}
 use mathlib.Core.Path.{_≡_, sym, _∙_}
 use native.Mathlib.Omega.{arith}
+use borrow.Author.Needs.{needs}
 use Rattle.rules.specs.Check.{refusal}
 use Rattle.rules.specs.Strided.{each}
 use Rattle.target_sums.proofs.LineLaws.{lineFrom, ahead, ahead-skip, ahead-stop, ahead-end}
-use borrow.Author.Needs.{needs}
 use Rattle.target_sums.proofs.lines_refusal.Statement.{statement}
 use Rattle.target_sums.proofs.lines_refusal.Tie as tie
 

@@ -1,14 +1,14 @@
--- `grid::put_sums` meets its contract: the first i sums stand in the slice. Assumes nothing.
+-- `target_sums::put_sums` meets its contract: the first i sums stand in the slice. Assumes nothing.
 use Prim.Native.Nat.{_≤_, _<_, _-_}
 use mathlib.Core.Path.{_≡_, refl, sym, _∙_}
 use native.Mathlib.Omega.{arith}
 use lib.ListN.{length, take, length-set}
 use lib.Seq.{take-all}
+use borrow.Author.Needs.{needs}
 use Rattle.tally.specs.Tally.{span}
 use Rattle.rules.specs.Grid.{lineSum}
 use Rattle.rules.specs.Strided.{each}
 use Rattle.target_sums.proofs.LineLaws.{fill-next}
-use borrow.Author.Needs.{needs}
 use Rattle.target_sums.proofs.put_sums.Statement.{statement}
 use Rattle.target_sums.proofs.put_sums.Tie as tie
 

@@ -1,4 +1,4 @@
--- `grid::scan_line` meets its contract: the walk has seen the first j cells. Assumes nothing.
+-- `target_sums::scan_line` meets its contract: the walk has seen the first j cells. Assumes nothing.
 use Prim.Native.Nat.{_≤_, _-_}
 use mathlib.Core.Path.{_≡_, refl}
 use native.Mathlib.Omega.{arith}

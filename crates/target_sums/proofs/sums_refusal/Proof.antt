@@ -1,4 +1,4 @@
--- `grid::sums_refusal` meets its contract: the checks' laws, in their order. Assumes nothing.
+-- `target_sums::sums_refusal` meets its contract: the checks' laws, in their order. Assumes nothing.
 use native.Mathlib.Omega.{arith}
 use borrow.Author.Needs.{needs}
 use Rattle.rules.proofs.CheckLaws.{said-yes, said-no}

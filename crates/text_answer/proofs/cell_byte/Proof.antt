@@ -1,7 +1,7 @@
--- `sheet_text::cell_byte` meets its contract. Assumes nothing.
+-- `text_answer::cell_byte` meets its contract. Assumes nothing.
 use native.Mathlib.Omega.{arith}
-use Rattle.text_answer.proofs.PutLaws.{cell-black, cell-digit, shown-digit}
 use borrow.Author.Needs.{needs}
+use Rattle.text_answer.proofs.PutLaws.{cell-black, cell-digit, shown-digit}
 use Rattle.text_answer.proofs.cell_byte.Statement.{statement}
 use Rattle.text_answer.proofs.cell_byte.Tie as tie
 

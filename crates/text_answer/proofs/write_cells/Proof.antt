@@ -1,9 +1,9 @@
--- `sheet_text::write_cells` meets its contract: the first i cells are written. Assumes nothing.
+-- `text_answer::write_cells` meets its contract: the first i cells are written. Assumes nothing.
 use Prim.Native.Nat.{_-_}
 use lib.ListN.{length}
+use borrow.Author.Needs.{needs}
 use Rattle.text_rules.specs.Text.{cellText}
 use Rattle.text_answer.proofs.PutLaws.{Copied, copied-start, copied-end, cell-at, cells-next}
-use borrow.Author.Needs.{needs}
 use Rattle.text_answer.proofs.write_cells.Statement.{statement}
 use Rattle.text_answer.proofs.write_cells.Tie as tie
 

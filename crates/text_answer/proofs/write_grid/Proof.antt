@@ -1,9 +1,9 @@
--- `sheet_text::write_grid` meets its contract: the first r rows are written. Assumes nothing.
+-- `text_answer::write_grid` meets its contract: the first r rows are written. Assumes nothing.
 use Prim.Native.Nat.{_-_}
 use native.Mathlib.Omega.{arith}
+use borrow.Author.Needs.{needs}
 use Rattle.text_answer.proofs.PutLaws.{put-both}
 use Rattle.text_answer.proofs.RowLaws.{RowsPut, rows-start, row-within, row-ask, rows-next, rows-end}
-use borrow.Author.Needs.{needs}
 use Rattle.text_answer.proofs.write_grid.Statement.{statement}
 use Rattle.text_answer.proofs.write_grid.Tie as tie
 

@@ -1,6 +1,6 @@
--- `sheet_text::write_number` meets its contract. Assumes nothing.
-use Rattle.text_answer.proofs.PutLaws.{number-one, number-two}
+-- `text_answer::write_number` meets its contract. Assumes nothing.
 use borrow.Author.Needs.{needs}
+use Rattle.text_answer.proofs.PutLaws.{number-one, number-two}
 use Rattle.text_answer.proofs.write_number.Statement.{statement}
 use Rattle.text_answer.proofs.write_number.Tie as tie
 

@@ -1,7 +1,7 @@
--- `sheet_text::write_refused` meets its contract. Assumes nothing.
+-- `text_answer::write_refused` meets its contract. Assumes nothing.
 use native.Mathlib.Omega.{arith}
-use Rattle.text_answer.proofs.PutLaws.{put-both}
 use borrow.Author.Needs.{needs}
+use Rattle.text_answer.proofs.PutLaws.{put-both}
 use Rattle.text_answer.proofs.write_refused.Statement.{statement}
 use Rattle.text_answer.proofs.write_refused.Tie as tie
 

@@ -1,8 +1,8 @@
--- `sheet_text::write_row` meets its contract. Assumes nothing.
+-- `text_answer::write_row` meets its contract. Assumes nothing.
 use native.Mathlib.Omega.{arith}
+use borrow.Author.Needs.{needs}
 use Rattle.text_answer.proofs.PutLaws.{put-both}
 use Rattle.text_answer.proofs.RowLaws.{row-first, row-later, row-cells, row-cells-later}
-use borrow.Author.Needs.{needs}
 use Rattle.text_answer.proofs.write_row.Statement.{statement}
 use Rattle.text_answer.proofs.write_row.Tie as tie
 

@@ -1,6 +1,6 @@
--- `sheet_text::write_solved` meets its contract. Assumes nothing.
-use Rattle.text_answer.proofs.PutLaws.{put-both}
+-- `text_answer::write_solved` meets its contract. Assumes nothing.
 use borrow.Author.Needs.{needs}
+use Rattle.text_answer.proofs.PutLaws.{put-both}
 use Rattle.text_answer.proofs.write_solved.Statement.{statement}
 use Rattle.text_answer.proofs.write_solved.Tie as tie
 

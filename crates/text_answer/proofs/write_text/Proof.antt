@@ -1,8 +1,8 @@
--- `sheet_text::write_text` meets its contract: the first i bytes are written. Assumes nothing.
+-- `text_answer::write_text` meets its contract: the first i bytes are written. Assumes nothing.
 use Prim.Native.Nat.{_-_}
 use lib.ListN.{length}
-use Rattle.text_answer.proofs.PutLaws.{Copied, copied-start, copied-next, text-end}
 use borrow.Author.Needs.{needs}
+use Rattle.text_answer.proofs.PutLaws.{Copied, copied-start, copied-next, text-end}
 use Rattle.text_answer.proofs.write_text.Statement.{statement}
 use Rattle.text_answer.proofs.write_text.Tie as tie
 

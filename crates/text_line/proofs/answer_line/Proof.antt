@@ -1,6 +1,6 @@
--- `sheet_line::answer_line` meets its contract. Assumes nothing.
-use Rattle.text_line.proofs.LineLaws.{line-short, line-count, line-ask, line-11, line-numbers}
+-- `text_line::answer_line` meets its contract. Assumes nothing.
 use borrow.Author.Needs.{needs}
+use Rattle.text_line.proofs.LineLaws.{line-short, line-count, line-ask, line-11, line-numbers}
 use Rattle.text_line.proofs.answer_line.Statement.{statement}
 use Rattle.text_line.proofs.answer_line.Tie as tie
 

@@ -1,9 +1,9 @@
--- `sheet_line::answer_numbers` meets its contract. Assumes nothing.
+-- `text_line::answer_numbers` meets its contract. Assumes nothing.
 use native.Mathlib.Omega.{arith}
+use borrow.Author.Needs.{needs}
 use Rattle.rules.proofs.CheckLaws.{said-yes, said-no}
 use Rattle.rules.proofs.SizeLaws.{size-in}
 use Rattle.text_line.proofs.LineLaws.{numbers-1, numbers-2, numbers-ask, numbers-text}
-use borrow.Author.Needs.{needs}
 use Rattle.text_line.proofs.answer_numbers.Statement.{statement}
 use Rattle.text_line.proofs.answer_numbers.Tie as tie
 

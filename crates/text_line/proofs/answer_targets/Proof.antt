@@ -1,8 +1,8 @@
--- `sheet_line::answer_targets` meets its contract. Assumes nothing.
+-- `text_line::answer_targets` meets its contract. Assumes nothing.
 use mathlib.Core.Path.{sym}
 use native.Mathlib.Omega.{arith}
-use Rattle.text_line.proofs.PuzzleTextLaws.{front-long, area, targets-solve}
 use borrow.Author.Needs.{needs}
+use Rattle.text_line.proofs.PuzzleTextLaws.{front-long, area, targets-solve}
 use Rattle.text_line.proofs.answer_targets.Statement.{statement}
 use Rattle.text_line.proofs.answer_targets.Tie as tie
 

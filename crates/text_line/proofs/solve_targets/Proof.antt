@@ -1,6 +1,6 @@
--- `sheet_line::solve_targets` meets its contract. Assumes nothing.
-use Rattle.text_line.proofs.PuzzleTextLaws.{rows-long, solve-shown, solve-text}
+-- `text_line::solve_targets` meets its contract. Assumes nothing.
 use borrow.Author.Needs.{needs}
+use Rattle.text_line.proofs.PuzzleTextLaws.{rows-long, solve-shown, solve-text}
 use Rattle.text_line.proofs.solve_targets.Statement.{statement}
 use Rattle.text_line.proofs.solve_targets.Tie as tie
 

@@ -1,8 +1,8 @@
--- `sheet_line::write_answer` meets its contract. Assumes nothing.
+-- `text_line::write_answer` meets its contract. Assumes nothing.
 use mathlib.Core.Path.{refl}
 use native.Mathlib.Omega.{arith}
-use Rattle.text_line.proofs.PuzzleTextLaws.{answer-ask, answer-put}
 use borrow.Author.Needs.{needs}
+use Rattle.text_line.proofs.PuzzleTextLaws.{answer-ask, answer-put}
 use Rattle.text_line.proofs.write_answer.Statement.{statement}
 use Rattle.text_line.proofs.write_answer.Tie as tie
 

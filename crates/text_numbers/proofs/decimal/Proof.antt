@@ -1,7 +1,7 @@
--- `sheet_numbers::decimal` meets its contract. Assumes nothing.
+-- `text_numbers::decimal` meets its contract. Assumes nothing.
+use borrow.Author.Needs.{needs}
 use Rattle.rules.proofs.CheckLaws.{said-yes, said-no}
 use Rattle.text_numbers.proofs.ValueLaws.{decimal-shaped, decimal-unshaped}
-use borrow.Author.Needs.{needs}
 use Rattle.text_numbers.proofs.decimal.Statement.{statement}
 use Rattle.text_numbers.proofs.decimal.Tie as tie
 

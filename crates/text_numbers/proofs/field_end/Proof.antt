@@ -1,8 +1,8 @@
--- `sheet_numbers::field_end` meets its contract: no space is passed. Assumes nothing.
+-- `text_numbers::field_end` meets its contract: no space is passed. Assumes nothing.
 use Prim.Native.Nat.{_-_}
 use lib.ListN.{length}
-use Rattle.text_numbers.proofs.FieldLaws.{Passed, passed-start, passed-space, passed-next, passed-end}
 use borrow.Author.Needs.{needs}
+use Rattle.text_numbers.proofs.FieldLaws.{Passed, passed-start, passed-space, passed-next, passed-end}
 use Rattle.text_numbers.proofs.field_end.Statement.{statement}
 use Rattle.text_numbers.proofs.field_end.Tie as tie
 

@@ -1,8 +1,8 @@
--- `sheet_numbers::read_numbers` meets its contract: the fields passed are read. Assumes nothing.
+-- `text_numbers::read_numbers` meets its contract: the fields passed are read. Assumes nothing.
 use Prim.Native.Nat.{_+_, _-_}
 use lib.ListN.{length}
-use Rattle.text_numbers.proofs.NumberLaws.{Reading, reading-long, reading-start, reading-no, reading-next, reading-end}
 use borrow.Author.Needs.{needs}
+use Rattle.text_numbers.proofs.NumberLaws.{Reading, reading-long, reading-start, reading-no, reading-next, reading-end}
 use Rattle.text_numbers.proofs.read_numbers.Statement.{statement}
 use Rattle.text_numbers.proofs.read_numbers.Tie as tie
 

@@ -1,6 +1,6 @@
--- `sheet_numbers::shaped` meets its contract. Assumes nothing.
-use Rattle.text_numbers.proofs.ValueLaws.{shaped-none, shaped-one, shaped-more}
+-- `text_numbers::shaped` meets its contract. Assumes nothing.
 use borrow.Author.Needs.{needs}
+use Rattle.text_numbers.proofs.ValueLaws.{shaped-none, shaped-one, shaped-more}
 use Rattle.text_numbers.proofs.shaped.Statement.{statement}
 use Rattle.text_numbers.proofs.shaped.Tie as tie
 

@@ -1,8 +1,8 @@
--- `sheet_numbers::value` meets its contract: the digits passed have the value v. Assumes nothing.
+-- `text_numbers::value` meets its contract: the digits passed have the value v. Assumes nothing.
 use Prim.Native.Nat.{_-_}
 use lib.ListN.{length}
-use Rattle.text_numbers.proofs.ValueLaws.{Valued, valued-start, valued-low, valued-high, valued-above, valued-next, valued-end}
 use borrow.Author.Needs.{needs}
+use Rattle.text_numbers.proofs.ValueLaws.{Valued, valued-start, valued-low, valued-high, valued-above, valued-next, valued-end}
 use Rattle.text_numbers.proofs.value.Statement.{statement}
 use Rattle.text_numbers.proofs.value.Tie as tie
 

@@ -1,8 +1,8 @@
--- `sheet_stream::feed_byte` meets its contract. Assumes nothing.
+-- `text_stream::feed_byte` meets its contract. Assumes nothing.
 use native.Mathlib.Omega.{arith}
+use borrow.Author.Needs.{needs}
 use Rattle.text_line.proofs.PuzzleTextLaws.{front-long}
 use Rattle.text_stream.proofs.FedLaws.{fed-end, fed-byte}
-use borrow.Author.Needs.{needs}
 use Rattle.text_stream.proofs.feed_byte.Statement.{statement}
 use Rattle.text_stream.proofs.feed_byte.Tie as tie
 

@@ -1,8 +1,8 @@
--- `sheet_stream::feed_bytes` meets its contract: the bytes passed are fed. Assumes nothing.
+-- `text_stream::feed_bytes` meets its contract: the bytes passed are fed. Assumes nothing.
 use Prim.Native.Nat.{_-_}
 use lib.ListN.{length}
-use Rattle.text_stream.proofs.FedLaws.{Feeding, feeding-start, feeding-end, feeding-next}
 use borrow.Author.Needs.{needs}
+use Rattle.text_stream.proofs.FedLaws.{Feeding, feeding-start, feeding-end, feeding-next}
 use Rattle.text_stream.proofs.feed_bytes.Statement.{statement}
 use Rattle.text_stream.proofs.feed_bytes.Tie as tie
 

@@ -1,6 +1,6 @@
--- `sheet_stream::keep_byte` meets its contract. Assumes nothing.
-use Rattle.text_stream.proofs.FedLaws.{kept-more, kept-full}
+-- `text_stream::keep_byte` meets its contract. Assumes nothing.
 use borrow.Author.Needs.{needs}
+use Rattle.text_stream.proofs.FedLaws.{kept-more, kept-full}
 use Rattle.text_stream.proofs.keep_byte.Statement.{statement}
 use Rattle.text_stream.proofs.keep_byte.Tie as tie
 

@@ -1,6 +1,6 @@
 -- `words::covered` meets its contract. Assumes nothing.
-use Rattle.words.proofs.CodeLaws.{shl-covered}
 use borrow.Author.Needs.{needs}
+use Rattle.words.proofs.CodeLaws.{shl-covered}
 use Rattle.words.proofs.covered.Statement.{statement}
 use Rattle.words.proofs.covered.Tie as tie
 

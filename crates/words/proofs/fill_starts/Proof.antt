@@ -1,9 +1,9 @@
 -- `words::fill_starts` meets its contract. Assumes nothing.
 use Prim.Native.Nat.{_-_}
 use native.Mathlib.Omega.{arith}
+use borrow.Author.Needs.{needs}
 use Rattle.words.proofs.FillLaws.{filling-start, fill-room, filling-next, filling-end}
 use Rattle.words.specs.Fill.{Filling}
-use borrow.Author.Needs.{needs}
 use Rattle.words.proofs.fill_starts.Statement.{statement}
 use Rattle.words.proofs.fill_starts.Tie as tie
 

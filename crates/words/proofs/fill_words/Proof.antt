@@ -1,9 +1,9 @@
 -- `words::fill_words` meets its contract. Assumes nothing.
 use mathlib.Core.Logic.{⊎-elim}
 use Prim.Native.Nat.{_-_}
+use borrow.Author.Needs.{needs}
 use Rattle.words.specs.Word.{subset, subsetTable}
 use Rattle.words.proofs.FillLaws.{FilledTo, filled-start, filled-ask, filled-next, filled-skip, filled-end}
-use borrow.Author.Needs.{needs}
 use Rattle.words.proofs.fill_words.Statement.{statement}
 use Rattle.words.proofs.fill_words.Tie as tie
 

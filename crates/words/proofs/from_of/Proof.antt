@@ -1,6 +1,6 @@
 -- `words::from_of` meets its contract. Assumes nothing.
-use Rattle.words.proofs.CodeLaws.{from-inside, from-outside}
 use borrow.Author.Needs.{needs}
+use Rattle.words.proofs.CodeLaws.{from-inside, from-outside}
 use Rattle.words.proofs.from_of.Statement.{statement}
 use Rattle.words.proofs.from_of.Tie as tie
 

@@ -1,7 +1,7 @@
 -- `words::from_sum` meets its contract. Assumes nothing.
-use Rattle.words.specs.Word.{fromSum, sumTable}
 use mathlib.Core.Path.{refl}
 use borrow.Author.Needs.{needs}
+use Rattle.words.specs.Word.{fromSum, sumTable}
 use Rattle.words.proofs.from_sum.Statement.{statement}
 use Rattle.words.proofs.from_sum.Tie as tie
 

@@ -1,6 +1,6 @@
 -- `words::last_of` meets its contract. Assumes nothing.
-use Rattle.words.proofs.CodeLaws.{last-inside, last-outside}
 use borrow.Author.Needs.{needs}
+use Rattle.words.proofs.CodeLaws.{last-inside, last-outside}
 use Rattle.words.proofs.last_of.Statement.{statement}
 use Rattle.words.proofs.last_of.Tie as tie
 

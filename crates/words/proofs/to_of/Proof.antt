@@ -1,6 +1,6 @@
 -- `words::to_of` meets its contract. Assumes nothing.
-use Rattle.words.proofs.CodeLaws.{to-inside, to-outside}
 use borrow.Author.Needs.{needs}
+use Rattle.words.proofs.CodeLaws.{to-inside, to-outside}
 use Rattle.words.proofs.to_of.Statement.{statement}
 use Rattle.words.proofs.to_of.Tie as tie
 

@@ -1,7 +1,7 @@
 -- `words::word` meets its contract. Assumes nothing.
 use native.Mathlib.Omega.{arith}
-use Rattle.words.proofs.CodeLaws.{inner-below, word-inside, word-outside}
 use borrow.Author.Needs.{needs}
+use Rattle.words.proofs.CodeLaws.{inner-below, word-inside, word-outside}
 use Rattle.words.proofs.word.Statement.{statement}
 use Rattle.words.proofs.word.Tie as tie
 

@@ -1,6 +1,6 @@
 -- `written::read_cell` meets its contract. Assumes nothing.
-use Rattle.written.proofs.CellLaws.{read-black, read-width, read-digit}
 use borrow.Author.Needs.{needs, fits-under}
+use Rattle.written.proofs.CellLaws.{read-black, read-width, read-digit}
 use Rattle.written.proofs.read_cell.Statement.{statement}
 use Rattle.written.proofs.read_cell.Tie as tie
 

@@ -1,6 +1,6 @@
 -- `written::read_mask` meets its contract. Assumes nothing.
-use Rattle.written.proofs.MaskLaws.{mask-room, mask-is}
 use borrow.Author.Needs.{needs}
+use Rattle.written.proofs.MaskLaws.{mask-room, mask-is}
 use Rattle.written.proofs.read_mask.Statement.{statement}
 use Rattle.written.proofs.read_mask.Tie as tie
 

@@ -1,9 +1,9 @@
 -- `written::write_grid_row` meets its contract: the first c cells are written. Assumes nothing.
 use Prim.Native.Nat.{_-_, _≤_}
 use native.Mathlib.Omega.{arith}
+use borrow.Author.Needs.{needs}
 use Rattle.written.specs.Published.{cellByte}
 use Rattle.written.proofs.RowLaws.{RowFilled, filled-start, filled-next, filled-end}
-use borrow.Author.Needs.{needs}
 use Rattle.written.proofs.write_grid_row.Statement.{statement}
 use Rattle.written.proofs.write_grid_row.Tie as tie
 

@@ -1,9 +1,9 @@
 -- `written::write_row` meets its contract: the first c masks are written. Assumes nothing.
 use Prim.Native.Nat.{_-_, _≤_}
 use native.Mathlib.Omega.{arith}
+use borrow.Author.Needs.{needs}
 use Rattle.written.specs.Published.{maskAt}
 use Rattle.written.proofs.RowLaws.{RowFilled, filled-start, filled-next, filled-end}
-use borrow.Author.Needs.{needs}
 use Rattle.written.proofs.write_row.Statement.{statement}
 use Rattle.written.proofs.write_row.Tie as tie
 

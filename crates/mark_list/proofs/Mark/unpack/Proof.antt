@@ -1,6 +1,6 @@
--- `marks::Mark::unpack` meets its contract. Assumes nothing.
-use Rattle.rules.specs.Mark.{rejects}
+-- `mark_list::Mark::unpack` meets its contract. Assumes nothing.
 use borrow.Author.Needs.{needs}
+use Rattle.rules.specs.Mark.{rejects}
 use Rattle.mark_list.proofs.Mark.unpack.Statement.{statement}
 use Rattle.mark_list.proofs.Mark.unpack.Tie as tie
 

@@ -1,8 +1,8 @@
--- `sheet_stream::Stream::end` meets its contract. Assumes nothing.
+-- `text_stream::Stream::end` meets its contract. Assumes nothing.
 use native.Mathlib.Omega.{arith}
+use borrow.Author.Needs.{needs}
 use Rattle.text_line.proofs.PuzzleTextLaws.{front-long}
 use Rattle.text_stream.proofs.CarryLaws.{last-none, last-line}
-use borrow.Author.Needs.{needs}
 use Rattle.text_stream.proofs.Stream.end.Statement.{statement}
 use Rattle.text_stream.proofs.Stream.end.Tie as tie
 

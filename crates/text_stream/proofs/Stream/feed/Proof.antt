@@ -1,6 +1,6 @@
--- `sheet_stream::Stream::feed` meets its contract. Assumes nothing.
-use Rattle.text_stream.proofs.CarryLaws.{stream-fed}
+-- `text_stream::Stream::feed` meets its contract. Assumes nothing.
 use borrow.Author.Needs.{needs}
+use Rattle.text_stream.proofs.CarryLaws.{stream-fed}
 use Rattle.text_stream.proofs.Stream.feed.Statement.{statement}
 use Rattle.text_stream.proofs.Stream.feed.Tie as tie
 

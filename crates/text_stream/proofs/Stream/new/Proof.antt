@@ -1,4 +1,4 @@
--- `sheet_stream::Stream::new` meets its contract. Assumes nothing.
+-- `text_stream::Stream::new` meets its contract. Assumes nothing.
 use mathlib.Core.Path.{refl}
 use Rattle.text_stream.proofs.CarryLaws.{stream-new}
 use Rattle.text_stream.proofs.Stream.new.Statement.{statement}

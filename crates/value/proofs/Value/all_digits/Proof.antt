@@ -1,7 +1,7 @@
 -- `value::Value::all_digits` meets its contract. Assumes nothing.
 use native.Mathlib.Omega.{arith}
-use Rattle.value.proofs.MaskLaws.{digits-mask, digits-small, digits-two}
 use borrow.Author.Needs.{needs}
+use Rattle.value.proofs.MaskLaws.{digits-mask, digits-small, digits-two}
 use Rattle.value.proofs.Value.all_digits.Statement.{statement}
 use Rattle.value.proofs.Value.all_digits.Tie as tie
 

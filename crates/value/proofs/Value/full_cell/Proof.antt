@@ -1,7 +1,7 @@
 -- `value::Value::full_cell` meets its contract. Assumes nothing.
 use native.Mathlib.Omega.{arith}
-use Rattle.value.proofs.MaskLaws.{digits-most, every-mask}
 use borrow.Author.Needs.{needs}
+use Rattle.value.proofs.MaskLaws.{digits-most, every-mask}
 use Rattle.value.proofs.Value.full_cell.Statement.{statement}
 use Rattle.value.proofs.Value.full_cell.Tie as tie
 

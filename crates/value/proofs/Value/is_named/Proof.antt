@@ -1,6 +1,6 @@
 -- `value::Value::is_named` meets its contract. Assumes nothing.
-use Rattle.value.proofs.NamedLaws.{named-zero, named-digit, named-gap, named-black}
 use borrow.Author.Needs.{needs}
+use Rattle.value.proofs.NamedLaws.{named-zero, named-digit, named-gap, named-black}
 use Rattle.value.proofs.Value.is_named.Statement.{statement}
 use Rattle.value.proofs.Value.is_named.Tie as tie
 
