@@ -15,14 +15,17 @@ use Rattle.table.specs.Value.{ValueOf, HalfOf}
 use Rattle.words.specs.Word.{Known, arrangementOf, wordOf, part, Words}
 use Rattle.table.specs.Lines.{lineAt, cellAt, blackAt, LineOf}
 
--- ---- the counters: how many arrangements of line ℓ are live, which they are, and how many of them have the value v at place p: support l (ℓ * 9 + p) v
+-- ---- the counters
 
+-- How many arrangements of line ℓ are live.
 abbrev pub lives : List ℕ → ℕ → ℕ
 lives l ℓ = getD l (lengthPlace ℓ) 0
 
+-- Which they are: number j of them.
 abbrev pub live : List ℕ → ℕ → ℕ → ℕ
 live l ℓ j = getD l (livePlace ℓ j) 0
 
+-- How many of them have the value v at a place: y is ℓ * 9 + place.
 abbrev pub support : List ℕ → ℕ → ℕ → ℕ
 support l y v = getD l (supportPlace y v) 0
 

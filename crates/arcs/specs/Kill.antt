@@ -20,9 +20,11 @@ pub record Placed (line : ℕ) (lane : Lane) : Type 0 where
 abbrev pub parts : ℕ → ℕ → ℕ → ℕ → ℕ
 parts line w y v = min (same (y / 9) line) (part (blackAt line) w (y % 9) v)
 
+-- The same at its inner places only.
 abbrev pub inners : ℕ → ℕ → ℕ → ℕ → ℕ
 inners line w y v = min (same (y / 9) line) (min (bit (y % 9) (innerOf w)) (bit v (setOf w)))
 
+-- A word of the line whose supports at its inner places are there to fall.
 pub record InnerAsk (n line : ℕ) (lane : Lane) (w : ℕ) (l : List ℕ) : Type 0 where
   pub sized : Sized l
   pub size : Size n
@@ -30,6 +32,7 @@ pub record InnerAsk (n line : ℕ) (lane : Lane) (w : ℕ) (l : List ℕ) : Type
   pub shaped : Shaped n w
   pub enough : (q v : ℕ) → q < 9 → v < 16 → min (bit q (innerOf w)) (bit v (setOf w)) ≤ support l (line * 9 + q) v
 
+-- A word of the line whose supports are all there to fall.
 pub record KillAsk (n line : ℕ) (lane : Lane) (w : ℕ) (l : List ℕ) : Type 0 where
   pub sized : Sized l
   pub size : Size n

@@ -38,6 +38,7 @@ single place value y v = min (same y place) (same v value)
 abbrev pub masked : ℕ → ℕ → ℕ → ℕ → ℕ
 masked place mask y v = min (same y place) (bit v mask)
 
+-- A support that is not 0, and the cell of its place.
 pub record DropAsk (l : List ℕ) (place cell v : ℕ) : Type 0 where
   pub sized : Sized l
   pub within : place < 162
@@ -45,6 +46,7 @@ pub record DropAsk (l : List ℕ) (place cell v : ℕ) : Type 0 where
   pub value : v < 16
   pub positive : 0 < support l place v
 
+-- The values of a mask have a support at the place, and the cell is that of the place.
 pub record DigitsAsk (l : List ℕ) (place cell mask : ℕ) : Type 0 where
   pub sized : Sized l
   pub within : place < 162

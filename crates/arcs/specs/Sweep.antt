@@ -16,6 +16,7 @@ use Rattle.arcs.specs.Kill.{Placed}
 
 -- ---- one arrangement leaves
 
+-- Arrangement i of the first len + 1 of a line's list is to leave, and w is its word.
 pub record RemoveAsk (n line : ℕ) (lane : Lane) (i len w : ℕ) (l : List ℕ) : Type 0 where
   pub ready : Ready n l
   pub of : LineOf n line
@@ -100,6 +101,7 @@ pub record Same (m : ℕ) (l l′ : List ℕ) : Type 0 where
   pub list : (j : ℕ) → j < perLine → live l′ m j ≡ live l m j
   pub tally : (p v : ℕ) → p < 9 → v < 16 → support l′ (m * 9 + p) v ≡ support l (m * 9 + p) v
 
+-- The value v was struck at place p of line ℓ, and the line is done with it: what moved, what was struck, and what stays of its arrangements.
 pub record LineDone (n ℓ p v : ℕ) (l l′ : List ℕ) : Type 0 where
   pub grown : Grown l l′
   pub rest : (k : ℕ) → countersAt ≤ k → k < lengthsAt → getD l′ k 0 ≡ getD l k 0

@@ -55,6 +55,7 @@ pub record SettleAsk (n : ℕ) (l : List ℕ) (settled wanted : Bool) (room : �
   pub ready : settled ≡ true → Ready n l
   pub fits : wanted ≡ true → room ≡ n * n
 
+-- The end of a branch: no grid, or the one of a settled table, written if it is wanted.
 pub record SettledAs (n : ℕ) (l : List ℕ) (settled wanted : Bool) (r : ℕ) (cells cells′ : List ℕ) : Type 0 where
   pub none : settled ≡ false → r ≡ 0
   pub one : settled ≡ true → r ≡ 1

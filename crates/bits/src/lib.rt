@@ -1,1 +1,1 @@
-// Nothing to run: the crate holds the laws of single bits and of sums, in specs/.
+// Nothing to run: the crate holds single bits and sums as definitions in specs/, and their laws in proofs/.

@@ -10,12 +10,12 @@ use lib.Dec.{ltb, leb}
 use borrow.Author.Tests.{lt-ltb, le-leb, ltb-true, leb-true}
 use Rattle.tally.proofs.TallyLaws.{and-both, span-mem, or-split}
 use Rattle.rules.specs.Grid.{digits, Line, across, down, index}
-use Rattle.table.specs.Table.{places, firstBlack, half}
+use Rattle.table.specs.Table.{places, firstBlack, half, sameHalf}
 use Rattle.line_laws.proofs.Half.{HalfValue, a-digit, a-first, a-second, half-value, digit-in, first-in, second-in}
 use Rattle.table.specs.Lines.{rowOf, columnOf, cellOf}
 use Rattle.slab.specs.Slab.{cand, tableIn}
 use Rattle.table.specs.Value.{ValueOf}
-use Rattle.set_cell.specs.Setting.{SetHit, oneHalf, in-row, in-column, in-cell}
+use Rattle.set_cell.specs.Setting.{SetHit, in-row, in-column, in-cell}
 use Rattle.set_cell.proofs.SettingLaws.{or-left, or-right, hits-strikes}
 use Rattle.set_cell.proofs.SetLaws.{table-yes, yes-table, no-table}
 use Rattle.counters.specs.Counters.{InGrid, inLine, placeOf, linePlaces}
@@ -100,7 +100,7 @@ in-half n ℓ v o t =
 
 -- ---- what setting a cell strikes
 
-pub both-in : (ℓ : Line) (v w : ℕ) → inLine ℓ v ≡ true → inLine ℓ w ≡ true → oneHalf v w ≡ true
+pub both-in : (ℓ : Line) (v w : ℕ) → inLine ℓ v ≡ true → inLine ℓ w ≡ true → sameHalf v w ≡ true
 both-in (across r) v w s t = or-left (ltb v 10 && ltb w 10) ((ltb v 8 || leb 10 v) && (ltb w 8 || leb 10 w)) (and-both s t)
 both-in (down c) v w s t = or-right (ltb v 10 && ltb w 10) ((ltb v 8 || leb 10 v) && (ltb w 8 || leb 10 w)) (and-both s t)
 

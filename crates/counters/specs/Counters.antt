@@ -71,10 +71,12 @@ abbrev pub placeOf : Line → ℕ → ℕ → ℕ
 placeOf (across r) k j = k * 9 + j
 placeOf (down c) k j = j * 9 + k
 
+-- Where the counters of a line's halves begin.
 abbrev pub halvesBase : Line → ℕ
 halvesBase (across r) = rowHalfAt
 halvesBase (down c) = colHalfAt
 
+-- Where the counters of a line's values begin.
 abbrev pub placesBase : Line → ℕ
 placesBase (across r) = placesAt
 placesBase (down c) = placesAt + 9 * 16
@@ -100,10 +102,12 @@ abbrev pub blacksBase : Line → ℕ
 blacksBase (across r) = rowBlacksAt
 blacksBase (down c) = colBlacksAt
 
+-- The first of the line's own blacks.
 abbrev pub ownBlack : Line → ℕ
 ownBlack (across r) = leftBlack
 ownBlack (down c) = upperBlack
 
+-- The first of the blacks of the line across.
 abbrev pub crossBlack : Line → ℕ
 crossBlack (across r) = upperBlack
 crossBlack (down c) = leftBlack

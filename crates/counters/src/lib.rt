@@ -1,1 +1,1 @@
-// Nothing to run: the crate holds the theory of the solver's counters, in specs/.
+// Nothing to run: the crate holds the solver's counters as definitions in specs/, and their laws in proofs/.

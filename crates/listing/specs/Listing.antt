@@ -36,13 +36,15 @@ pub record Raised (ℓ : ℕ) (l l′ : List ℕ) (f : ℕ → ℕ → ℕ) : Ty
   pub supports : (p v : ℕ) → p < 9 → v < 16 → support l′ (ℓ * 9 + p) v ≡ support l (ℓ * 9 + p) v + f p v
   pub rest : (q : ℕ) → ((p v : ℕ) → p < 9 → v < 16 → (q ≡ supportPlace (ℓ * 9 + p) v → ⊥)) → getD l′ q 0 ≡ getD l q 0
 
--- By one at one place and value; by the digits of a set at one place; by the digits of a word at its inner places below m.
+-- By one at one place and value.
 unfoldable pub oneAt : ℕ → ℕ → ℕ → ℕ → ℕ
 oneAt p v q w = same (q * 16 + w) (p * 16 + v)
 
+-- By the digits of a set at one place.
 unfoldable pub digitsAt : ℕ → ℕ → ℕ → ℕ → ℕ
 digitsAt p set q w = min (same q p) (bit w set)
 
+-- By the digits of a word at its inner places below m.
 unfoldable pub innerTo : ℕ → ℕ → ℕ → ℕ → ℕ
 innerTo m w q v = cond (ltb q m) (min (bit v (setOf w)) (bit q (innerOf w))) 0
 

@@ -28,9 +28,11 @@ pub data Bare (l : List ℕ) (x v : ℕ) : Type 0 where
 unfoldable pub BareCell : List ℕ → ℕ → ℕ → ℕ → Type 0
 BareCell l cell x v = (x ≡ cell) × Bare l x v
 
+-- Those of the cells before column c in row r.
 unfoldable pub BareIn : List ℕ → ℕ → ℕ → ℕ → ℕ → Type 0
 BareIn l r c x v = (x / 9 ≡ r) × (x % 9 < c) × Bare l x v
 
+-- Those of the first n cells of each row before row r.
 unfoldable pub BareTo : List ℕ → ℕ → ℕ → ℕ → ℕ → Type 0
 BareTo l n r x v = (x / 9 < r) × (x % 9 < n) × Bare l x v
 

@@ -22,6 +22,7 @@ slice xs start end = cond (leb end (length xs)) (take (end - start) (drop start 
 abbrev pub field : List ℕ → ℕ → List ℕ
 field xs k = slice xs (fieldStart xs k + 2) (fieldStart xs (k + 1))
 
+-- What kind of record it is.
 abbrev pub tag : List ℕ → ℕ
 tag xs = getD xs 0 0
 

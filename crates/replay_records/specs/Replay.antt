@@ -29,6 +29,7 @@ FindsAs t r xs =
     (cond (eqb t 5) (CellsFound r xs)
     (r ≡ false)))))
 
+-- By its own kind.
 abbrev pub Finds : Bool → List ℕ → Type 0
 Finds r xs = FindsAs (tag xs) r xs
 

@@ -17,6 +17,7 @@ use Rattle.replay_records.specs.Agreement.{Says}
 abbrev pub recordPuzzle : List ℕ → Puzzle
 recordPuzzle xs = puzzle (recordSize xs) (field xs 1) (field xs 2)
 
+-- The marks of a record.
 abbrev pub marksIn : List ℕ → List ℕ
 marksIn xs = marksOf (field xs 3)
 

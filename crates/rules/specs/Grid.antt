@@ -8,11 +8,10 @@ use Rattle.tally.specs.Tally.{span, sum, all, count}
 
 -- ---- the cells of a line
 
--- The byte of a black cell.
+-- The byte of a black cell, and the test whether a cell is black.
 abbrev pub black : ℕ
 black = 255
 
--- A cell is black.
 abbrev pub isBlack : ℕ → Bool
 isBlack c = eqb c black
 

@@ -14,9 +14,9 @@ use Rattle.bits.specs.Bit.{bit}
 use Rattle.bits.proofs.BitLaws.{shl-one}
 use Rattle.rules.specs.Mark.{leftBlack, rightBlack, upperBlack, lowerBlack}
 use Rattle.table.specs.Steps.{strikes}
-use Rattle.table.specs.Table.{inColumn, inRow}
+use Rattle.table.specs.Table.{inColumn, inRow, sameHalf}
 use Rattle.set_cell.proofs.MaskBits.{bitTest, mask-is}
-use Rattle.set_cell.specs.Setting.{oneHalf, RestOfHalf, Hits, in-row, in-column, in-cell, to-left, to-right, above, below}
+use Rattle.set_cell.specs.Setting.{RestOfHalf, Hits, in-row, in-column, in-cell, to-left, to-right, above, below}
 
 -- ---- tests
 pub or-left : (a b : Bool) → a ≡ true → (a || b) ≡ true
@@ -50,7 +50,7 @@ module _ (r c v i j w : ℕ) where
   inColumnTest = eqb j c && (not (eqb i r) && (inColumn v && eqb w v))
 
   abbrev inCellTest : Bool
-  inCellTest = eqb i r && (eqb j c && (not (eqb w v) && oneHalf v w))
+  inCellTest = eqb i r && (eqb j c && (not (eqb w v) && sameHalf v w))
 
   abbrev rowAroundTest : Bool
   rowAroundTest = eqb i r && ((ltb j c && eqb w rightBlack) || (ltb c j && eqb w leftBlack))
@@ -101,7 +101,7 @@ module _ (r c v i j w : ℕ) where
 
   of-cell : inCellTest ≡ true → Hits r c v i j w
   of-cell s =
-      let q = and-four (eqb i r) (eqb j c) (not (eqb w v)) (oneHalf v w) s in
+      let q = and-four (eqb i r) (eqb j c) (not (eqb w v)) (sameHalf v w) s in
       in-cell (eqb-true i r (q .0)) (eqb-true j c (q .1)) (not-eq w v (q .2)) (q .3)
 
   -- a second black before, or a first black behind
@@ -140,7 +140,7 @@ restOf : ℕ → ℕ
 restOf v = cond (ltb v 8) (4094 - 2 ^ v) (cond (ltb v 10) (1022 - 2 ^ v) (3326 - 2 ^ v))
 
 isRest : ℕ → ℕ → Bool
-isRest v w = not (eqb w v) && (oneHalf v w && (leb 1 w && ltb w 12))
+isRest v w = not (eqb w v) && (sameHalf v w && (leb 1 w && ltb w 12))
 
 rest-all : all (λ v. all (bitTest (restOf v) (isRest v)) (span 0 16)) (span 1 11) ≡ true
 unfolding span all bitTest restOf isRest bit
@@ -152,8 +152,8 @@ rest-is v m h k e = rw e (
     let b = mask-is (restOf v) (isRest v) (all-each (λ v. all (bitTest (restOf v) (isRest v)) (span 0 16)) (span-mem 1 11 v h (omega arith)) rest-all) in
     record {
       only = λ w n c.
-          let q = and-two (not (eqb w v)) (oneHalf v w && (leb 1 w && ltb w 12)) (b .only w n c) in
-          (not-eq w v (q .0), and-left (oneHalf v w) (leb 1 w && ltb w 12) (q .1));
+          let q = and-two (not (eqb w v)) (sameHalf v w && (leb 1 w && ltb w 12)) (b .only w n c) in
+          (not-eq w v (q .0), and-left (sameHalf v w) (leb 1 w && ltb w 12) (q .1));
       each = λ w a c d o. b .has w (omega arith) (and-both (eq-not w v d) (and-both o (and-both (le-leb 1 w a) (lt-ltb w 12 c))));
     })
 

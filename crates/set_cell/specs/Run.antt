@@ -22,12 +22,14 @@ Sides lane n i u v x w = Run lane 0 i u x w ⊎ Run lane (i + 1) n v x w
 pub record Inside (start stride n : ℕ) : Type 0 where
   pub inside : (p : ℕ) → p < n → start + p * stride < 81
 
+-- The places from a to b - 1 of a line lie in the state.
 pub record RunAsk (l : List ℕ) (lane : Lane) (a b v : ℕ) : Type 0 where
   pub sized : Sized l
   pub value : v < 16
   pub order : a ≤ b
   pub cells : Inside (lane .start) (lane .stride) b
 
+-- Place i of n places of a line, all of which lie in the state.
 pub record SidesAsk (l : List ℕ) (n : ℕ) (lane : Lane) (i u v : ℕ) : Type 0 where
   pub sized : Sized l
   pub before : u < 16

@@ -40,6 +40,7 @@ pub record HalfAt (n : ℕ) (l : List ℕ) (own : Bool) (counter x mask : ℕ) (
   pub next : Next l h x v
   pub halves : HalvesOf ℓ n l h
 
+-- A half whose counter is to fall.
 pub record HalfAsk (n : ℕ) (l : List ℕ) (own : Bool) (counter x mask : ℕ) : Type 0 where
   pub ready : Ready n l
   pub line : Line
@@ -48,21 +49,25 @@ pub record HalfAsk (n : ℕ) (l : List ℕ) (own : Bool) (counter x mask : ℕ) 
   pub value : ℕ
   pub half : HalfAt n l own counter x mask line place head value
 
+-- Its counter fell: the strike is handled in this half, and each step had a reason.
 pub record HalfDone (n : ℕ) (l l′ : List ℕ) (own : Bool) (counter x mask : ℕ) : Type 0 where
   pub moved : Moved l l′ counter (counter + 1)
   pub steps : Steps n l l′
   pub halves : (ℓ : Line) (i h v : ℕ) → HalfAt n l own counter x mask ℓ i h v → HalvesOf ℓ n l′ (h + 1)
 
+-- A strike that the halves have next.
 pub record SingletonAsk (n : ℕ) (l : List ℕ) (r c v : ℕ) : Type 0 where
   pub head : ℕ
   pub strike : Handling n l r c v head
   pub halves : Halves n l head
 
+-- It is handled in both halves of its cell.
 pub record SingletonDone (n : ℕ) (l l′ : List ℕ) (r c v : ℕ) : Type 0 where
   pub moved : Moved l l′ rowHalfAt placesAt
   pub steps : Steps n l l′
   pub halves : (h : ℕ) → Next l h (r * 9 + c) v → Halves n l h → Halves n l′ (h + 1)
 
+-- A line of n places by its start and stride.
 pub record FindAsk (l : List ℕ) (n start stride v : ℕ) : Type 0 where
   pub size : length l ≡ slabSize
   pub value : v < 16
@@ -84,6 +89,7 @@ pub record PlacesAt (n : ℕ) (l : List ℕ) (own : Bool) (counter start stride 
   pub next : Next l h (cellOf ℓ i) v
   pub places : PlacesOf ℓ n l h
 
+-- A value of a line whose counter is to fall.
 pub record PlacesAsk (n : ℕ) (l : List ℕ) (own : Bool) (counter start stride v : ℕ) : Type 0 where
   pub ready : Ready n l
   pub line : Line
@@ -91,16 +97,19 @@ pub record PlacesAsk (n : ℕ) (l : List ℕ) (own : Bool) (counter start stride
   pub head : ℕ
   pub counted : PlacesAt n l own counter start stride v line place head
 
+-- Its counter fell: the strike is handled in this line, and each step had a reason.
 pub record PlacesDone (n : ℕ) (l l′ : List ℕ) (own : Bool) (counter start stride v : ℕ) : Type 0 where
   pub moved : Moved l l′ counter (counter + 1)
   pub steps : Steps n l l′
   pub places : (ℓ : Line) (i h : ℕ) → PlacesAt n l own counter start stride v ℓ i h → PlacesOf ℓ n l′ (h + 1)
 
+-- A strike that the places of the lines have next.
 pub record HiddenAsk (n : ℕ) (l : List ℕ) (r c v : ℕ) : Type 0 where
   pub head : ℕ
   pub strike : Handling n l r c v head
   pub places : LinePlaces n l head
 
+-- It is handled in both lines of its cell.
 pub record HiddenDone (n : ℕ) (l l′ : List ℕ) (r c v : ℕ) : Type 0 where
   pub moved : Moved l l′ placesAt rowBlacksAt
   pub steps : Steps n l l′
@@ -127,6 +136,7 @@ pub record BlacksAt (n : ℕ) (l : List ℕ) (own : Bool) (counter x mask : ℕ)
   pub next : Next l h x v
   pub blacks : BlacksOf ℓ n l h
 
+-- A cell's blacks of one kind whose counter is to fall.
 pub record BlacksAsk (n : ℕ) (l : List ℕ) (own : Bool) (counter x mask : ℕ) : Type 0 where
   pub ready : Ready n l
   pub line : Line
@@ -135,16 +145,19 @@ pub record BlacksAsk (n : ℕ) (l : List ℕ) (own : Bool) (counter x mask : ℕ
   pub value : ℕ
   pub counted : BlacksAt n l own counter x mask line place head value
 
+-- Their counter fell: the strike is handled for them, and each step had a reason.
 pub record BlacksDone (n : ℕ) (l l′ : List ℕ) (own : Bool) (counter x mask : ℕ) : Type 0 where
   pub moved : Moved l l′ counter (counter + 1)
   pub steps : Steps n l l′
   pub blacks : (ℓ : Line) (i h v : ℕ) → BlacksAt n l own counter x mask ℓ i h v → BlacksOf ℓ n l′ (h + 1)
 
+-- A strike that the blacks have next.
 pub record ConsistencyAsk (n : ℕ) (l : List ℕ) (r c v : ℕ) : Type 0 where
   pub head : ℕ
   pub strike : Handling n l r c v head
   pub blacks : Blacks n l head
 
+-- It is handled for both kinds of blacks of its cell.
 pub record ConsistencyDone (n : ℕ) (l l′ : List ℕ) (r c v : ℕ) : Type 0 where
   pub moved : Moved l l′ rowBlacksAt lengthsAt
   pub steps : Steps n l l′

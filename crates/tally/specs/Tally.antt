@@ -8,10 +8,12 @@ unfoldable pub span : ℕ → ℕ → List ℕ
 span a zero = []
 span a (suc k) = a ∷ span (suc a) k
 
+-- 1 if a test passes, else 0
 abbrev pub oneIf : Bool → ℕ
 oneIf true = 1
 oneIf false = 0
 
+-- the sum of a list
 unfoldable pub sum : List ℕ → ℕ
 sum [] = 0
 sum (x ∷ xs) = x + sum xs
@@ -47,6 +49,7 @@ module _ {A : Type 0} where
   any p [] = false
   any p (x ∷ xs) = p x || any p xs
 
+  -- the lists one behind the other
   unfoldable pub join : List (List A) → List A
   join [] = []
   join (x ∷ xs) = x ++ join xs

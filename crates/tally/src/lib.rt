@@ -1,1 +1,1 @@
-// Nothing to run: the crate holds definitions on lists and their laws, in specs/.
+// Nothing to run: the crate holds definitions on lists, in specs/, and their laws, in proofs/.

@@ -19,6 +19,7 @@ pub record Put (text : List ℕ) (counted : ℕ) (out out′ : List ℕ) : Type 
 abbrev pub shown : ℕ → Bool
 shown c = isBlack c || leb c 9
 
+-- The same as a statement.
 abbrev pub Shown : ℕ → Type 0
 Shown c = shown c ≡ true
 

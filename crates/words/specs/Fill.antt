@@ -21,5 +21,6 @@ pub record Filling (n s k : ℕ) (ws₀ ws : List ℕ) : Type 0 where
   pub each : (i : ℕ) → i < k → getD ws (s * 9 + i) 0 ≡ wordOf n (s * 9 + i)
   pub old : (id : ℕ) → id < s * 9 → getD ws id 0 ≡ getD ws₀ id 0
 
+-- All words of subset s are there.
 abbrev pub WordsFilled : ℕ → ℕ → List ℕ → List ℕ → Type 0
 WordsFilled n s ws₀ ws = Filling n s n ws₀ ws

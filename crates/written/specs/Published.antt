@@ -29,6 +29,7 @@ pub record PublishedTable (n : ℕ) (l table : List ℕ) : Type 0 where
 abbrev pub maskAt : ℕ → List ℕ → ℕ → ℕ → ℕ
 maskAt n l r c = mask n (getD l (r * 9 + c) 0)
 
+-- The byte of a cell of a settled table.
 abbrev pub cellByte : ℕ → List ℕ → ℕ → ℕ → ℕ
 cellByte n l r c = readCell n (tableIn l r c)
 
