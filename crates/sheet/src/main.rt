@@ -1,5 +1,5 @@
 // Answers the puzzles on standard input, line by line, on standard output (docs/INTERFACE.md, "The program `sheet`").
-// What is read and written is not in any contract: sheet_stream says what the bytes are, and here they are only handed on.
+// What is read and written is not in any contract: text_stream says what the bytes are, and here they are only handed on.
 use libc::EINTR;
 use libc::STDIN_FILENO;
 use libc::STDOUT_FILENO;
