@@ -13,7 +13,7 @@ pub struct Question<'a> {
 }
 
 /// The exported calls, each answering with the number that the library returns.
-pub trait Engine {
+pub trait Engine: Sync {
     fn target_sums(&self, size: usize, cells: &[u8], rows: &mut [u8], columns: &mut [u8]) -> u8;
     fn mark_sheet(&self, size: usize, rows: &[u8], columns: &[u8], cells: &[u8]) -> u8;
     fn count(&self, asked: Question, cap: u64, count: &mut u64) -> u8;

@@ -54,13 +54,13 @@ pub struct Family<I> {
 
 pub enum Inputs<I> {
     /// A list that is always run to its end.
-    Whole(Box<dyn Fn() -> Box<dyn Iterator<Item = I>>>),
+    Whole(Box<dyn Fn() -> Box<dyn Iterator<Item = I>> + Sync>),
     /// Random inputs, as many as the time allows.
     Drawn(fn(&mut SeededRng) -> I),
 }
 
 impl<I> Family<I> {
-    pub fn whole<T>(name: &'static str, inputs: impl Fn() -> T + 'static) -> Self
+    pub fn whole<T>(name: &'static str, inputs: impl Fn() -> T + Sync + 'static) -> Self
     where
         T: Iterator<Item = I> + 'static,
     {
@@ -75,7 +75,7 @@ impl<I> Family<I> {
 }
 
 /// One family of one call, with the type of its inputs out of sight.
-pub trait Job {
+pub trait Job: Sync {
     fn call(&self) -> &'static str;
     fn family(&self) -> &'static str;
     fn is_whole(&self) -> bool;

@@ -1,6 +1,10 @@
 //! Runs the families within a time budget and prints what was compared.
 
 use std::collections::BTreeMap;
+use std::num::NonZero;
+use std::sync::Mutex;
+use std::sync::atomic::{AtomicUsize, Ordering};
+use std::thread;
 use std::time::{Duration, Instant};
 
 use crate::engine::Engine;
@@ -20,7 +24,8 @@ pub struct Found {
     pub failure: Failure,
 }
 
-/// Whole lists first; the drawn families share the time that is left.
+/// Whole lists first; the drawn families share the time that is left. Every
+/// processor runs a family at a time.
 pub fn run(
     engine: &dyn Engine,
     jobs: &[Box<dyn Job>],
@@ -29,16 +34,55 @@ pub fn run(
     let end = Instant::now() + budget;
     let places = 0..jobs.len();
     let (whole, drawn): (Vec<_>, Vec<_>) = places.partition(|&place| jobs[place].is_whole());
-    let mut lines = BTreeMap::new();
-    for place in whole {
-        lines.insert(place, line(engine, &*jobs[place], Duration::ZERO)?);
-    }
-    for (done, &place) in drawn.iter().enumerate() {
-        let left = end.saturating_duration_since(Instant::now());
-        let share = left / (drawn.len() - done) as u32;
-        lines.insert(place, line(engine, &*jobs[place], share)?);
-    }
+    let mut lines = several(&whole, |_, place| {
+        line(engine, &*jobs[place], Duration::ZERO)
+    })?;
+    lines.extend(several(&drawn, |left, place| {
+        let time = end.saturating_duration_since(Instant::now());
+        let share = time * workers() as u32 / left as u32;
+        line(engine, &*jobs[place], share.min(time))
+    })?);
     Ok(lines.into_values().collect())
+}
+
+fn workers() -> usize {
+    thread::available_parallelism().map_or(1, NonZero::get)
+}
+
+/// Does `work` at each place, told how many are left, as many at a time as there
+/// are processors. Places are begun in their order and none after a difference,
+/// so the one that is given back does not depend on which worker was faster.
+fn several(
+    places: &[usize],
+    work: impl Fn(usize, usize) -> Result<Line, Found> + Sync,
+) -> Result<BTreeMap<usize, Line>, Found> {
+    let begun = AtomicUsize::new(0);
+    let results = Mutex::new(BTreeMap::new());
+    let worker = || {
+        while let Some((left, place)) = next(places, &begun) {
+            let result = work(left, place);
+            if result.is_err() {
+                begun.store(places.len(), Ordering::Relaxed);
+            }
+            results.lock().unwrap().insert(place, result);
+        }
+    };
+    thread::scope(|scope| {
+        for _ in 0..workers() {
+            scope.spawn(worker);
+        }
+    });
+    let results = results.into_inner().unwrap().into_iter();
+    results
+        .map(|(place, result)| Ok((place, result?)))
+        .collect()
+}
+
+/// The next place, with how many are left, itself included.
+fn next(places: &[usize], begun: &AtomicUsize) -> Option<(usize, usize)> {
+    let done = begun.fetch_add(1, Ordering::Relaxed);
+    let place = places.get(done)?;
+    Some((places.len() - done, *place))
 }
 
 fn line(engine: &dyn Engine, job: &dyn Job, time: Duration) -> Result<Line, Found> {

@@ -151,13 +151,12 @@ fn found_in_candidates(candidates: IntoBytes) -> String {
     found::<Candidates>(&Faulty { candidates, ..GOOD }).expect("the fault is found")
 }
 
+/// Without the long lists, which the linked engine goes through in full.
 #[test]
 fn an_engine_by_the_rules_passes() {
-    assert_eq!(found_in_sums(good_sums), None);
-    assert_eq!(found_in_marking(good_marking), None);
-    assert_eq!(found::<Count>(&GOOD), None);
-    assert_eq!(found::<Solve>(&GOOD), None);
-    assert_eq!(found::<Candidates>(&GOOD), None);
+    let mut jobs = compare::jobs(1);
+    jobs.retain(|job| !job.family().starts_with("size 3"));
+    assert!(report::run(&GOOD, &jobs, Duration::ZERO).is_ok());
 }
 
 #[test]
