@@ -1,12 +1,9 @@
 -- What the exported calls give to a host: numbers. Assumes nothing.
-use Prim.Native.Nat.{ℕ, _%_}
+use Prim.Native.Nat.{ℕ}
 use mathlib.Core.Path.{_≡_}
-use mathlib.Core.List.{List, []}
-use mathlib.Core.Bool.{cond}
-use lib.Dec.{eqb}
-use lib.ListN.{length}
+use mathlib.Core.List.{List}
 use Rattle.rules.specs.Grid.{Puzzle}
-use Rattle.rules.specs.Mark.{marksOf}
+use Rattle.table.specs.Table.{entriesOf}
 use Rattle.sheet_marking.specs.declared.Marked.{Marked}
 use Rattle.sheet_marking.specs.declared.Marked.the-variants.{Refused, Right, Wrong}
 use Rattle.engine.specs.declared.Counted.{Counted}
@@ -43,10 +40,6 @@ abbrev pub tableNumber : Outcome → ℕ
 tableNumber (tables.Refused k) = k
 tableNumber Written = 0
 tableNumber Contradicted = 100
-
--- The entries of a list of bytes, two an entry as with marks: an odd number of bytes has none.
-unfoldable pub entriesOf : List ℕ → List ℕ
-entriesOf bs = cond (eqb (length bs % 2) 0) (marksOf bs) []
 
 -- The number and the entries are those of an answer of Candidates; unless the number is 0, the bytes are as they were.
 pub record TableNumbered (p : Puzzle) (ms : List ℕ) (number : ℕ) (bytes bytes′ : List ℕ) : Type 0 where

@@ -9,10 +9,11 @@ ghost use Rattle.rules.specs.Grid.{puzzle};
 ghost use Rattle.sheet_marking.specs.Answer.{markSheet};
 ghost use Rattle.rules.specs.Mark.{marksOf};
 ghost use Rattle.engine.specs.Answer.{countAnswer, solveAnswer, SolveWritten};
-ghost use Prim.Native.Nat.{_*_, min};
+ghost use Prim.Native.Nat.{min};
 ghost use lib.ListN.{length};
-ghost use Rattle.doppelblock.specs.Entries.{entryCount, mostLent};
-ghost use Rattle.doppelblock.specs.Number.{entriesOf, TableNumbered, sheetNumber, countOut, solveNumber};
+ghost use Rattle.table.specs.Table.{entriesOf};
+ghost use Rattle.table_bytes.specs.Entries.{mostLent};
+ghost use Rattle.doppelblock.specs.Number.{TableNumbered, sheetNumber, countOut, solveNumber};
 
 pub struct Answer {
     pub number: u8,
@@ -119,38 +120,6 @@ pub extern "C" fn doppelblock_solve(
     solve_number(engine::solve(size, rows, columns, marks, cells))
 }
 
-// How many entries of two bytes a table has; with a byte left over, none.
-fn entry_count(len: usize) -> usize
-    ensures { λ r. ⌜ r ≡ entryCount len ⌝ }
-{
-    if len % 2 == 0 { len / 2 } else { 0 }
-}
-
-// Writes each entry as two bytes, the more significant first.
-fn write_entries(entries: &[u16], bytes: &mut [u8])
-    requires { ⌜ length (now bytes) ≡ 2 * length (now entries) ⌝ }
-    ensures { λ _. ⌜ entriesOf (now (bytes .exit)) ≡ now (entries .entry) ⌝ }
-{
-    let mut i = 0;
-    while i < entries.len() {
-        let e = entries[i];
-        bytes[2 * i] = (e / 256) as u8;
-        bytes[2 * i + 1] = (e % 256) as u8;
-        i += 1;
-    }
-}
-
-// One entry more than the largest table has.
-const MOST_LENT: usize = 82;
-
-// How many entries are lent for a table: as many as it has, up to the most.
-fn lent_count(len: usize) -> usize
-    ensures { λ r. ⌜ r ≡ min (entryCount len) mostLent ⌝ }
-{
-    let count = entry_count(len);
-    if count < MOST_LENT { count } else { MOST_LENT }
-}
-
 // Candidates by way of lent entries, which become the bytes of the table where they are written.
 fn candidates_by_entries(
     size: usize,
@@ -168,7 +137,7 @@ fn candidates_by_entries(
         Outcome::Refused(k) => k,
         Outcome::Contradicted => Answer::CONTRADICTED,
         Outcome::Written => {
-            write_entries(entries, table);
+            table_bytes::write_entries(entries, table);
             Answer::WRITTEN
         }
     }
@@ -186,7 +155,7 @@ pub extern "C" fn doppelblock_candidates(
     ensures { λ r. ⌜ TableNumbered (puzzle size (now (rows .entry)) (now (columns .entry))) (marksOf (now (marks .entry)))
         r (now (table .entry)) (now (table .exit)) ⌝ }
 {
-    let count = lent_count(table.len());
-    let mut entries = [0u16; MOST_LENT];
+    let count = table_bytes::lent_count(table.len());
+    let mut entries = [0u16; table_bytes::MOST_LENT];
     candidates_by_entries(size, rows, columns, marks, &mut entries[..count], table)
 }

@@ -3,10 +3,10 @@ use Prim.Native.Nat.{ℕ, suc, _+_, _-_, _/_, _%_, _^_}
 use mathlib.Core.Bool.{Bool, _&&_, cond, _||_}
 use mathlib.Core.List.{List, [], _∷_, _++_}
 use lib.Dec.{eqb, ltb, leb}
-use lib.ListN.{getD, take}
+use lib.ListN.{length, getD, take}
 use Rattle.tally.specs.Tally.{span, all, count}
 use Rattle.rules.specs.Grid.{isBlack, digits, Line, across, down, line, lines, cell, Puzzle, keeps}
-use Rattle.rules.specs.Mark.{leftBlack, upperBlack}
+use Rattle.rules.specs.Mark.{leftBlack, upperBlack, marksOf}
 use Rattle.rules.specs.Number.{grids}
 
 -- A table says of each row, column and value (a digit or a black, as in marks) whether the cell may still have the value.
@@ -68,3 +68,7 @@ hasBit m b = eqb (m / 2 ^ b % 2) 1
 -- The table that a list of masks stands for.
 unfoldable pub tableOf : ℕ → List ℕ → Table
 tableOf n masks r c v = hasBit (cell n masks r c) (bitOf n v)
+
+-- The entries of a list of bytes, two an entry as with marks: an odd number of bytes has none.
+unfoldable pub entriesOf : List ℕ → List ℕ
+entriesOf bs = cond (eqb (length bs % 2) 0) (marksOf bs) []

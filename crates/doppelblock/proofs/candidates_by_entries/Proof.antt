@@ -1,6 +1,6 @@
 -- `doppelblock::candidates_by_entries` meets its contract. Assumes nothing.
 use borrow.Author.Needs.{needs}
-use Rattle.doppelblock.proofs.EntryLaws.{numbered-refused, numbered-none, written-room, numbered-written}
+use Rattle.doppelblock.proofs.LentLaws.{numbered-refused, numbered-none, written-room, numbered-written}
 use Rattle.doppelblock.proofs.candidates_by_entries.Statement.{statement}
 use Rattle.doppelblock.proofs.candidates_by_entries.Tie as tie
 

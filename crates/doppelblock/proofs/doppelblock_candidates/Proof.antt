@@ -5,8 +5,8 @@ use native.Mathlib.Omega.{arith}
 use native.Mathlib.Nat.{min-eq-left}
 use lib.ListN.{length-take}
 use borrow.Author.Needs.{needs}
-use Rattle.doppelblock.specs.Entries.{mostLent}
-use Rattle.doppelblock.proofs.EntryLaws.{entries-length}
+use Rattle.table_bytes.specs.Entries.{mostLent}
+use Rattle.table_bytes.proofs.EntryLaws.{entries-length}
 use Rattle.doppelblock.proofs.doppelblock_candidates.Statement.{statement}
 use Rattle.doppelblock.proofs.doppelblock_candidates.Tie as tie
 

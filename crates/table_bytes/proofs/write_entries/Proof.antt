@@ -1,12 +1,12 @@
--- `doppelblock::write_entries` meets its contract: the first i entries are written. Assumes nothing.
+-- `table_bytes::write_entries` meets its contract: the first i entries are written. Assumes nothing.
 use Prim.Native.Nat.{_-_, _≤_}
 use lib.ListN.{length, length-set}
 use mathlib.Core.Path.{refl}
 use native.Mathlib.Omega.{arith}
 use borrow.Author.Needs.{needs}
-use Rattle.doppelblock.proofs.EntryLaws.{EntriesFilled, filled-start, filled-next, filled-end}
-use Rattle.doppelblock.proofs.write_entries.Statement.{statement}
-use Rattle.doppelblock.proofs.write_entries.Tie as tie
+use Rattle.table_bytes.proofs.EntryLaws.{EntriesFilled, filled-start, filled-next, filled-end}
+use Rattle.table_bytes.proofs.write_entries.Statement.{statement}
+use Rattle.table_bytes.proofs.write_entries.Tie as tie
 
 abbrev Inv-loop : tie.InvT-loop
 Inv-loop entries bytes₀ i₀ bytes i = (i ≤ length entries) × EntriesFilled entries bytes₀ bytes i

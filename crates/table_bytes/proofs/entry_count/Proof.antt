@@ -1,8 +1,8 @@
--- `doppelblock::entry_count` meets its contract. Assumes nothing.
+-- `table_bytes::entry_count` meets its contract. Assumes nothing.
 use borrow.Author.Needs.{needs}
-use Rattle.doppelblock.proofs.EntryLaws.{count-even, count-odd}
-use Rattle.doppelblock.proofs.entry_count.Statement.{statement}
-use Rattle.doppelblock.proofs.entry_count.Tie as tie
+use Rattle.table_bytes.proofs.EntryLaws.{count-even, count-odd}
+use Rattle.table_bytes.proofs.entry_count.Statement.{statement}
+use Rattle.table_bytes.proofs.entry_count.Tie as tie
 
 returns : tie.Need-returns
 returns c = search (needs, count-even, count-odd)
