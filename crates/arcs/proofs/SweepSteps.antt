@@ -5,14 +5,12 @@ use mathlib.Core.Logic.{⊎-elim}
 use mathlib.Core.Bool.{Bool, true, false}
 use mathlib.Core.List.{List}
 use native.Mathlib.Omega.{arith}
-use native.Mathlib.Decide.{ℕ-discrete}
 use lib.ListN.{length, getD}
-use borrow.Author.Tests.{eq-eqb, ne-eqb}
 use Rattle.bits.specs.Sum.{same}
 use Rattle.bits.proofs.SumLaws.{same-yes, same-no}
 use Rattle.slab.proofs.StruckLaws.{grown-gone}
 use Rattle.lane.specs.declared.Lane.{Lane}
-use Rattle.words.specs.Word.{wordOf, part}
+use Rattle.words.specs.Word.{wordOf, part, shiftOf}
 use Rattle.slab.specs.Layout.{perLine, slabSize}
 use Rattle.arcs.specs.Arc.{live}
 use Rattle.table.specs.Value.{HalfOf}
@@ -20,24 +18,10 @@ use Rattle.table.specs.Lines.{cellAt, blackAt}
 use Rattle.arcs.proofs.KillLaws.{black-low}
 use Rattle.arcs.proofs.WalkLaws.{placed-small}
 use Rattle.arcs.proofs.TestLaws.{shift-part}
-use Rattle.arcs.specs.Have.{testOf, shiftOf, HaveAsk, Have, Tested}
+use Rattle.arcs.specs.Have.{testOf, HaveAsk, Have, Tested}
 use Rattle.arcs.proofs.DeathLaws.{have-kept, black-dead, tested-kept, tested-dead}
 use Rattle.arcs.specs.Sweep.{Removed, untouched, SweepAsk, Sweeping}
 use Rattle.arcs.proofs.SweepLaws.{sweep-line, sweep-place, sweep-bounds, sweep-known, sweep-keep, sweep-drop}
-
--- ---- where the place of a black begins
-
-pub shift-first : (k v : ℕ) → v ≡ k → 17 ≡ shiftOf k v
-unfolding shiftOf
-shift-first k v e = rw (eq-eqb v k e)
-
-pub shift-second : (k v : ℕ) → (v ≡ k → ⊥) → 21 ≡ shiftOf k v
-unfolding shiftOf
-shift-second k v e = rw (ne-eqb v k e)
-
-pub shift-small : (k v s : ℕ) → s ≡ shiftOf k v → s < 32
-shift-small k v s e =
-    elim (ℕ-discrete v k) [ yes q ↦ omega (arith, shift-first k v q) | no q ↦ omega (arith, shift-second k v q) ]
 
 module _ {n ℓ p v : ℕ} {lane : Lane} {ws l₀ : List ℕ} (a : SweepAsk n ℓ lane p v ws l₀) where
   pub sweep-cell : lane .start + p * lane .stride ≡ cellAt ℓ p

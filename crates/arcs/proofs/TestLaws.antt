@@ -13,9 +13,9 @@ use Rattle.bits.specs.Bit.{bit}
 use Rattle.bits.proofs.BitLaws.{bit-lt, bit-and, bit-or, bit-ext, bit-pow-same, bit-pow-other, bit-none, trailing-lowest}
 use Rattle.bits.specs.Sum.{same}
 use Rattle.words.proofs.CodeLaws.{shl-one}
-use Rattle.words.specs.Word.{setOf, innerOf, part}
+use Rattle.words.specs.Word.{setOf, innerOf, part, shiftOf}
 use Rattle.words.proofs.PatternLaws.{part-digit, part-first, part-second}
-use Rattle.arcs.specs.Have.{testOf, shiftOf}
+use Rattle.arcs.specs.Have.{testOf}
 
 -- ---- bits of a field
 

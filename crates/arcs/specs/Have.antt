@@ -2,11 +2,10 @@
 use Prim.Native.Nat.{ℕ, _+_, _*_, _≤_, _<_, _^_}
 use mathlib.Core.Path.{_≡_}
 use mathlib.Core.Logic.{_⊎_}
-use mathlib.Core.Bool.{Bool, true, false, cond}
+use mathlib.Core.Bool.{Bool, true, false}
 use mathlib.Core.List.{List}
 use lib.Bits.{bitAnd, bitOr}
 use lib.ListN.{length, getD}
-use lib.Dec.{eqb}
 use Rattle.bits.specs.Bit.{bit}
 use Rattle.lane.specs.declared.Lane.{Lane}
 use Rattle.words.specs.Word.{setOf, coveredOf}
@@ -32,7 +31,3 @@ pub record Tested (w test have cands : ℕ) (r : Bool) : Type 0 where
 -- The bits of digit v and of the inner place p.
 abbrev pub testOf : ℕ → ℕ → ℕ
 testOf v p = bitOr (2 ^ v) (2 ^ (8 + p))
-
--- The bit at which the place of the black v begins, in a line with first black k.
-unfoldable pub shiftOf : ℕ → ℕ → ℕ
-shiftOf k v = cond (eqb v k) 17 21

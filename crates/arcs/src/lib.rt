@@ -7,7 +7,7 @@ ghost use Rattle.slab.specs.Layout.{perLine, slabSize};
 ghost use Rattle.words.specs.Word.{after};
 ghost use Rattle.arcs.specs.Kill.{parts, inners, InnerAsk, KillAsk};
 ghost use Rattle.arcs.specs.Arc.{live, ArcAsk, ArcDone};
-ghost use Rattle.arcs.specs.Have.{HaveAsk, Have, Tested, testOf, shiftOf};
+ghost use Rattle.arcs.specs.Have.{HaveAsk, Have, Tested, testOf};
 ghost use Rattle.arcs.specs.Sweep.{RemoveAsk, Removed, SweepAsk, Swept, LineDone};
 ghost use Rattle.arcs.specs.Sunk.{Sunk, single, masked, DropAsk, DigitsAsk};
 use lane::Lane;
@@ -172,19 +172,12 @@ fn sweep_digit(st: &mut [u16], words: &[u32], n: usize, lane: Lane, p: usize, v:
     len
 }
 
-// Where the place of a black begins in a word.
-fn black_shift(first: usize, v: usize) -> u32
-    ensures { λ r. ⌜ r ≡ shiftOf first v ⌝ }
-{
-    if v == first { 17 } else { 21 }
-}
-
 // The sweep for a black that is struck at place p: the arrangements that have it there leave. Gives how many are left.
 fn sweep_black(st: &mut [u16], words: &[u32], n: usize, lane: Lane, p: usize, v: usize) -> usize
     requires { ⌜ SweepAsk n (lane .number) lane p v (now words) (now st) × (8 ≤ v) ⌝ }
     ensures { λ r. ⌜ Swept n (lane .number) p v (now (st .entry)) (now (st .exit)) r ⌝ }
 {
-    let shift = black_shift(lane.first, v);
+    let shift = words::black_shift(lane.first, v);
     let mut i = 0;
     let mut len = wide(st[Slab::LENGTHS + lane.number]);
     while i < len {

@@ -4,7 +4,7 @@ use mathlib.Core.Path.{_≡_, refl, sym, ap, ap₂, _∙_}
 use mathlib.Core.Bool.{Bool, true, false, cond}
 use mathlib.Core.List.{List, [], _∷_, _++_, map, append-assoc, append-nil, map-append}
 use native.Mathlib.Omega.{arith}
-use lib.Dec.{ltb, leb}
+use lib.Dec.{ltb}
 use lib.ListN.{length, getD, set, length-set, length-append, length-map}
 use borrow.Author.Tests.{lt-ltb, le-ltb}
 use lib.Seq.{getD-set-same, getD-set-other}
@@ -12,7 +12,7 @@ use Rattle.tally.specs.Tally.{span, keep, join}
 use Rattle.tally.specs.Tally as tally
 use Rattle.tally.proofs.TallyLaws.{sum-append, span-length}
 use Rattle.rules.proofs.StridedLaws.{map-next}
-use Rattle.words.specs.Word.{maskIn, sizeIn, fromSum, Known, wordOf, part}
+use Rattle.words.specs.Word.{maskIn, sizeIn, fromSum, Known, wordOf, part, onSide}
 use Rattle.words.proofs.WordFacts.{subset-fits, from-sum-most}
 use Rattle.words.proofs.FillLaws.{top-is}
 use Rattle.words.proofs.PatternLaws.{part-lt}
@@ -20,7 +20,7 @@ use Rattle.words.proofs.WordLaws.{known-shaped}
 use Rattle.arcs.specs.Arc.{lives, live, support}
 use Rattle.table.specs.Lines.{blackAt}
 use Rattle.slab.specs.Layout.{lengthPlace, perLine, livePlace, supportPlace}
-use Rattle.listing.specs.Numbers.{scan, onSide, startsFrom, ofSize, sideFrom, sideOf}
+use Rattle.listing.specs.Numbers.{scan, startsFrom, ofSize, sideFrom, sideOf}
 use Rattle.listing.specs.Listing.{listOf, Raised, WordAsk, Added, AddAsk, Adding, StartsAsk}
 
 -- ---- lists
@@ -279,14 +279,3 @@ module _ {n ℓ : ℕ} {l : List ℕ} (outside : Bool) (want from to : ℕ) (e :
   pub sum-added : {l′ : List ℕ} → Added n ℓ l l′ (sideFrom n outside from to) → Added n ℓ l l′ (sideOf n outside want)
   unfolding sideOf
   sum-added r = rw (e, f) at r
-
--- ---- the tests of the code
-
-module _ (n end : ℕ) (outside : Bool) where
-  pub side-out : outside ≡ true → ltb n end ≡ onSide n outside end
-  unfolding onSide
-  side-out e = rw e
-
-  pub side-in : outside ≡ false → leb end n ≡ onSide n outside end
-  unfolding onSide
-  side-in e = rw e

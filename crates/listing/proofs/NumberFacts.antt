@@ -16,9 +16,9 @@ use Rattle.table.specs.Closed.{Arrangement, subsets, subsetsWith, fromStarts, i
 use Rattle.bits.specs.Bit.{bit}
 use Rattle.rules.proofs.SizeLaws.{at-size}
 use Rattle.rules.specs.Size.{Size}
-use Rattle.words.specs.Word.{subsetTable, subset, sumTable, fromSum, maskIn, digitsOf, arrangementOf, Known}
+use Rattle.words.specs.Word.{subsetTable, subset, sumTable, fromSum, maskIn, digitsOf, arrangementOf, Known, onSide}
 use Rattle.slab.specs.Layout.{perLine}
-use Rattle.listing.specs.Numbers.{scan, onSide, startsFrom, ofSize, sideFrom, sideOf, numbersFor}
+use Rattle.listing.specs.Numbers.{scan, startsFrom, ofSize, sideFrom, sideOf, numbersFor}
 
 -- ---- equal arrangements, by a test
 

@@ -1,19 +1,15 @@
 -- The numbers of a line's arrangements, in the order in which they are listed. Assumes nothing.
 use Prim.Native.Nat.{ℕ, _+_, _-_, _*_, _^_}
-use mathlib.Core.Bool.{Bool, true, false, cond}
+use mathlib.Core.Bool.{Bool, true, false}
 use mathlib.Core.List.{List, [], _∷_, _++_, map}
-use lib.Dec.{ltb, leb}
+use lib.Dec.{ltb}
 use Rattle.tally.specs.Tally.{span, keep, join}
 use Rattle.rules.specs.Check.{maxTarget}
-use Rattle.words.specs.Word.{maskIn, sizeIn, fromSum}
+use Rattle.words.specs.Word.{maskIn, sizeIn, fromSum, onSide}
 
 -- What f lists for the numbers from a up to m that pass a test.
 unfoldable pub scan : (ℕ → List ℕ) → (ℕ → Bool) → ℕ → ℕ → List ℕ
 scan f ok a m = join (map f (keep ok (span a (m - a))))
-
--- An arrangement with a given end is one of the inside ones, or of the outside ones, of size n.
-unfoldable pub onSide : ℕ → Bool → ℕ → Bool
-onSide n outside end = cond outside (ltb n end) (leb end n)
 
 -- The arrangements of subset s, that has len digits, from start a on.
 unfoldable pub startsFrom : ℕ → Bool → ℕ → ℕ → ℕ → List ℕ

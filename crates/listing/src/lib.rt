@@ -8,12 +8,11 @@ use words::first_of;
 use words::from_sum;
 use words::second_of;
 use words::set_of;
-ghost use mathlib.Core.Path.{_≡_};
 ghost use mathlib.Core.List.{_∷_, []};
 ghost use Prim.Native.Nat.{ℕ, _≤_, _<_};
 ghost use Rattle.rules.specs.Check.{maxTarget};
 ghost use Rattle.words.specs.Word.{part, Known};
-ghost use Rattle.listing.specs.Numbers.{onSide, startsFrom, sideFrom, sideOf, numbersFor};
+ghost use Rattle.listing.specs.Numbers.{startsFrom, sideFrom, sideOf, numbersFor};
 ghost use Rattle.listing.specs.Listing.{Raised, oneAt, digitsAt, innerTo, RaiseAsk, WordAsk, Added, AddAsk, StartsAsk, LinesAsk, LinesTo, OpenAsk, LinesListed};
 
 // One more arrangement has the value v at place p of a line.
@@ -75,13 +74,6 @@ fn add_arrangement(st: &mut [u16], words: &[u32], n: usize, line: usize, first: 
     add_support(st, n, line, first, words[id]);
 }
 
-// An arrangement that takes the places before end is an inside one, or an outside one.
-fn on_side(n: usize, outside: bool, end: usize) -> bool
-    ensures { λ r. ⌜ r ≡ onSide n outside end ⌝ }
-{
-    if outside { n < end } else { end <= n }
-}
-
 // The arrangements of subset s, which has len digits, from each start of one side.
 fn list_starts(
     st: &mut [u16],
@@ -98,7 +90,7 @@ fn list_starts(
 {
     let mut start = 0;
     while start < n {
-        if on_side(n, outside, start + len + 2) {
+        if words::on_side(n, outside, start + len + 2) {
             add_arrangement(st, words, n, line, first, s * 9 + start);
         }
         start += 1;

@@ -3,6 +3,7 @@ pub mod Arranged
 pub mod CodeLaws
 pub mod FillLaws
 pub mod PatternLaws
+pub mod SideLaws
 pub mod StepLaws
 pub mod WordFacts
 pub mod WordLaws

@@ -133,6 +133,14 @@ headOf k w = cond (eqb (outsideOf w) 0) k (suc k)
 unfoldable pub lastOf : ℕ → ℕ → ℕ
 lastOf k w = cond (eqb (outsideOf w) 0) (suc k) k
 
+-- The bit at which the place of the black v begins, in a line with first black k.
+unfoldable pub shiftOf : ℕ → ℕ → ℕ
+shiftOf k v = cond (eqb v k) 17 21
+
+-- An arrangement with a given end is one of the inside ones, or of the outside ones, of size n.
+unfoldable pub onSide : ℕ → Bool → ℕ → Bool
+onSide n outside end = cond outside (ltb n end) (leb end n)
+
 -- How many steps lead from place a to place p in a line of n places, wrapping.
 unfoldable pub steps : ℕ → ℕ → ℕ → ℕ
 steps n a p = cond (ltb p a) (p + n - a) (p - a)

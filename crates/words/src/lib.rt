@@ -6,7 +6,7 @@ ghost use mathlib.Core.Path.{_≡_};
 ghost use Prim.Native.Nat.{_+_, _≤_, _<_};
 ghost use lib.ListN.{length};
 ghost use Rattle.rules.specs.Size.{Size};
-ghost use Rattle.words.specs.Word.{fromSum, setOf, firstOf, secondOf, coveredOf, innerPlaces, wordFrom, fromOf, toOf, headOf, lastOf, Words};
+ghost use Rattle.words.specs.Word.{fromSum, setOf, firstOf, secondOf, coveredOf, innerPlaces, wordFrom, fromOf, toOf, headOf, lastOf, shiftOf, onSide, Words};
 ghost use Rattle.words.specs.Fill.{FillAsk, WordsFilled};
 
 pub struct Subset {
@@ -250,6 +250,20 @@ pub fn last_of(w: u32, k: usize) -> usize
     ensures { λ r. ⌜ r ≡ lastOf k w ⌝ }
 {
     if w / 33554432 == 0 { k + 1 } else { k }
+}
+
+// Where the place of a black begins in a word.
+pub fn black_shift(first: usize, v: usize) -> u32
+    ensures { λ r. ⌜ r ≡ shiftOf first v ⌝ }
+{
+    if v == first { 17 } else { 21 }
+}
+
+// An arrangement that takes the places before end is an inside one, or an outside one.
+pub fn on_side(n: usize, outside: bool, end: usize) -> bool
+    ensures { λ r. ⌜ r ≡ onSide n outside end ⌝ }
+{
+    if outside { n < end } else { end <= n }
 }
 
 // The places between the ends.

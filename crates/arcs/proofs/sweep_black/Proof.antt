@@ -2,7 +2,8 @@
 use mathlib.Core.Path.{refl}
 use Prim.Native.Nat.{_-_}
 use borrow.Author.Needs.{needs}
-use Rattle.arcs.proofs.SweepSteps.{shift-small, sweep-read, sweep-word, black-keep, black-drop}
+use Rattle.arcs.proofs.SweepSteps.{sweep-read, sweep-word, black-keep, black-drop}
+use Rattle.words.proofs.SideLaws.{shift-small}
 use Rattle.arcs.proofs.SweepLaws.{sweep-start, sweep-ask, sweep-end}
 use Rattle.arcs.specs.Sweep.{Sweeping}
 use Rattle.arcs.proofs.sweep_black.Statement.{statement}

@@ -1,8 +1,8 @@
--- `listing::on_side` meets its contract. Assumes nothing.
+-- `words::on_side` meets its contract. Assumes nothing.
 use borrow.Author.Needs.{needs}
-use Rattle.listing.proofs.AddLaws.{side-out, side-in}
-use Rattle.listing.proofs.on_side.Statement.{statement}
-use Rattle.listing.proofs.on_side.Tie as tie
+use Rattle.words.proofs.SideLaws.{side-out, side-in}
+use Rattle.words.proofs.on_side.Statement.{statement}
+use Rattle.words.proofs.on_side.Tie as tie
 
 returns : tie.Need-returns
 returns c = search (needs, side-out)

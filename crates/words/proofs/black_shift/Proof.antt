@@ -1,7 +1,7 @@
--- `arcs::black_shift` meets its contract. Assumes nothing.
-use Rattle.arcs.proofs.SweepSteps.{shift-first, shift-second}
-use Rattle.arcs.proofs.black_shift.Statement.{statement}
-use Rattle.arcs.proofs.black_shift.Tie as tie
+-- `words::black_shift` meets its contract. Assumes nothing.
+use Rattle.words.proofs.SideLaws.{shift-first, shift-second}
+use Rattle.words.proofs.black_shift.Statement.{statement}
+use Rattle.words.proofs.black_shift.Tie as tie
 
 returns : tie.Need-returns
 returns c = shift-first _ _ (c .if1 .taken)
