@@ -1,5 +1,4 @@
 -- What the proofs of several functions use.
 mod AgreementLaws
-mod FieldLaws
 mod ReplayLaws
 mod SolverAgreementLaws

@@ -11,9 +11,10 @@ use lib.Dec.{eqb}
 use borrow.Author.Tests.{eq-eqb, ne-eqb, not-true, not-false}
 use Rattle.replay_records.specs.declared.Outcome.{Outcome}
 use Rattle.replay_records.specs.declared.Tally.{Tally}
-use Rattle.replay_records.specs.Fields.{tag, fieldCount, fieldStart, recordLength, readable}
-use Rattle.replay_records.proofs.FieldLaws.{start-positive, readable-within}
-use Rattle.replay_records.specs.Agreement.{Says, SumsAgree, SheetAgrees}
+use Rattle.record_fields.specs.Fields.{tag, fieldCount, fieldStart, recordLength, readable}
+use Rattle.record_fields.proofs.FieldLaws.{start-positive, readable-within}
+use Rattle.record_fields.specs.Recorded.{Says}
+use Rattle.replay_records.specs.Agreement.{SumsAgree, SheetAgrees}
 use Rattle.replay_records.specs.SolverAgreement.{TableFound, CountAgrees, CellsFound}
 use Rattle.replay_records.specs.Replay.{kind, step, FindsAs, Finds, RecordTested, Replayed, inKinds, asNumber, RecordAdded, RecordsTallied, none, more, FirstDifference, at-end, here, later}
 

@@ -2,44 +2,22 @@
 use Prim.Native.Nat.{ℕ, _≤_, _<_}
 use native.Mathlib.Omega.{arith}
 use mathlib.Core.Path.{_≡_, refl, sym, ap, _∙_, subst}
-use mathlib.Core.Bool.{Bool, true, false, not, false≢true}
+use mathlib.Core.Bool.{Bool, true, false, false≢true}
 use mathlib.Core.List.{List, [], _∷_}
-use lib.Dec.{eqb}
 use lib.ListN.{length, take}
-use borrow.Author.Tests.{eq-eqb, eqb-true, not-true, not-false}
 use Rattle.rules.specs.Mark.{marksOf}
 use Rattle.rules.specs.Grid.{puzzle}
 use Rattle.engine.specs.Answer.{countAnswer, solveAnswer, SolveWritten}
 use Rattle.doppelblock.specs.Number.{countOut, solveNumber, TableNumbered}
-use Rattle.replay_records.specs.Fields.{field, recordSize, numberFrom}
-use Rattle.replay_records.specs.Agreement.{Says}
-use Rattle.replay_records.proofs.AgreementLaws.{says-no, says-refuted, says-also}
-use Rattle.replay_records.specs.SolverAgreement.{LongNumber, CountRecorded, CountFrom, CountAgrees, BufferRecorded, Compared, FittingCompared, TablePromised, TableFrom, TableFound, CellsPromised, CellsFrom, CellsFound}
+use Rattle.record_fields.specs.Fields.{field, recordSize, numberFrom}
+use Rattle.record_fields.specs.Recorded.{Says}
+use Rattle.record_fields.proofs.RecordedLaws.{says-no, says-also}
+use Rattle.record_fields.specs.Recorded.{CountRecorded, BufferRecorded}
+use Rattle.replay_records.specs.SolverAgreement.{CountFrom, CountAgrees, Compared, FittingCompared, TablePromised, TableFrom, TableFound, CellsPromised, CellsFrom, CellsFound}
 
 -- ---- Count
 
-pub long-number-short : (v : ℕ) (bytes f : List ℕ) → bytes ≡ f → (length bytes ≡ 8 → ⊥) → Says false (LongNumber v f)
-long-number-short v bytes f e n = says-no (λ s. n (ap length e ∙ s .whole))
-
-pub long-number-decides : (v n : ℕ) (bytes f : List ℕ) → bytes ≡ f → length bytes ≡ 8 → n ≡ numberFrom 0 bytes → Says (eqb n v) (LongNumber v f)
-long-number-decides v n bytes f e w is-n =
-    record {
-      sound = λ t. record { whole = sym (ap length e) ∙ w; value-is = ap (numberFrom 0) (sym e) ∙ sym is-n ∙ eqb-true n v t };
-      complete = λ s. eq-eqb n v (is-n ∙ ap (numberFrom 0) e ∙ s .value-is);
-    }
-
 module _ (xs : List ℕ) where
-  module _ (number count : ℕ) (a : Bool) (answered : Says a (field xs 6 ≡ number ∷ [])) where
-    pub count-answer-differs : not a ≡ true → Says false (CountRecorded number count xs)
-    count-answer-differs e = says-no (λ s. says-refuted answered (not-true a e) (s .answer-is))
-
-    pub count-decides : (b : Bool) → not a ≡ false → Says b (LongNumber count (field xs 7)) → Says b (CountRecorded number count xs)
-    count-decides b e s =
-        says-also
-        s
-        (λ q. record { answer-is = answered .sound (not-false a e); count-is = q })
-        (λ p. p .count-is)
-
   -- Count was called on the record's puzzle and marks.
   pub count-called :
       (size number cap old new : ℕ) (rows columns marks : List ℕ) (b : Bool) → size ≡ recordSize xs → rows ≡ field xs 1 → columns ≡ field xs 2
@@ -67,17 +45,6 @@ module _ (xs : List ℕ) where
 -- ---- Candidates and Solve
 
 module _ (xs : List ℕ) where
-  module _ (number : ℕ) (content : List ℕ) (a : Bool) (answered : Says a (field xs 5 ≡ number ∷ [])) where
-    pub buffer-answer-differs : not a ≡ true → Says false (BufferRecorded number content xs)
-    buffer-answer-differs e = says-no (λ s. says-refuted answered (not-true a e) (s .answer-is))
-
-    pub buffer-decides : (b : Bool) → not a ≡ false → Says b (field xs 6 ≡ content) → Says b (BufferRecorded number content xs)
-    buffer-decides b e s =
-        says-also
-        s
-        (λ q. record { answer-is = answered .sound (not-false a e); buffer-is = q })
-        (λ p. p .buffer-is)
-
   module _ (size number : ℕ) (rows columns marks content after : List ℕ) (b : Bool) (s : size ≡ recordSize xs) (r : rows ≡ field xs 1)
       (c : columns ≡ field xs 2) (m : marks ≡ field xs 3) (h : Says b (BufferRecorded number after xs)) where
     -- Candidates was called on the record's puzzle and marks.

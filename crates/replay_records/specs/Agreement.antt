@@ -1,25 +1,14 @@
 -- What it means that the engine answers as a record says: the record has what the definitions give. Assumes nothing.
 use Prim.Native.Nat.{ℕ, _≤_}
 use mathlib.Core.Path.{_≡_}
-use mathlib.Core.Bool.{Bool, true}
 use mathlib.Core.List.{List, [], _∷_}
 use lib.ListN.{length}
 use Rattle.rules.specs.Sums.{targetSums}
 use Rattle.rules.specs.Grid.{puzzle}
 use Rattle.sheet_marking.specs.Answer.{markSheet}
 use Rattle.doppelblock.specs.Number.{sheetNumber}
-use Rattle.replay_records.specs.Fields.{field, recordSize}
-
--- A test is true exactly where a statement holds.
-pub record Says (r : Bool) (P : Type 0) : Type 0 where
-  pub sound : r ≡ true → P
-  pub complete : P → r ≡ true
-
--- The record has this number and these target slices.
-pub record SumsRecorded (number : ℕ) (rows columns : List ℕ) (xs : List ℕ) : Type 0 where
-  pub answer-is : field xs 4 ≡ number ∷ []
-  pub rows-are : field xs 5 ≡ rows
-  pub columns-are : field xs 6 ≡ columns
+use Rattle.record_fields.specs.Fields.{field, recordSize}
+use Rattle.record_fields.specs.Recorded.{SumsRecorded}
 
 -- The record has what a definition gives.
 abbrev pub SumsAs : ℕ × List ℕ × List ℕ → List ℕ → Type 0

@@ -7,8 +7,9 @@ use lib.Dec.{leb, eqb}
 use lib.ListN.{length, drop}
 use Rattle.replay_records.specs.declared.Outcome.{Outcome}
 use Rattle.replay_records.specs.declared.Tally.{Tally}
-use Rattle.replay_records.specs.Fields.{tag, readable, recordLength}
-use Rattle.replay_records.specs.Agreement.{Says, SumsAgree, SheetAgrees}
+use Rattle.record_fields.specs.Fields.{tag, readable, recordLength}
+use Rattle.record_fields.specs.Recorded.{Says}
+use Rattle.replay_records.specs.Agreement.{SumsAgree, SheetAgrees}
 use Rattle.replay_records.specs.SolverAgreement.{TableFound, CountAgrees, CellsFound}
 
 -- The tag of the first record, or 0 where none can be read.

@@ -3,15 +3,15 @@
 use Prim.Native.Nat.{ℕ, _≤_, _<_}
 use mathlib.Core.Path.{_≡_}
 use mathlib.Core.Bool.{Bool, false}
-use mathlib.Core.List.{List, [], _∷_}
+use mathlib.Core.List.{List}
 use lib.ListN.{length}
 use Rattle.rules.specs.Grid.{Puzzle, puzzle}
 use Rattle.rules.specs.Mark.{marksOf}
 use Rattle.engine.specs.declared.Counted.{Counted}
 use Rattle.engine.specs.Answer.{countAnswer, solveAnswer, SolveWritten}
 use Rattle.doppelblock.specs.Number.{countOut, solveNumber, TableNumbered}
-use Rattle.replay_records.specs.Fields.{field, recordSize, numberFrom}
-use Rattle.replay_records.specs.Agreement.{Says}
+use Rattle.record_fields.specs.Fields.{field, recordSize, numberFrom}
+use Rattle.record_fields.specs.Recorded.{Says, CountRecorded, BufferRecorded}
 
 -- The puzzle and the marks of a record.
 abbrev pub recordPuzzle : List ℕ → Puzzle
@@ -22,16 +22,6 @@ abbrev pub marksIn : List ℕ → List ℕ
 marksIn xs = marksOf (field xs 3)
 
 -- ---- Count
-
--- Eight bytes are a number.
-pub record LongNumber (v : ℕ) (bytes : List ℕ) : Type 0 where
-  pub whole : length bytes ≡ 8
-  pub value-is : numberFrom 0 bytes ≡ v
-
--- The record has this number and this count.
-pub record CountRecorded (number count : ℕ) (xs : List ℕ) : Type 0 where
-  pub answer-is : field xs 6 ≡ number ∷ []
-  pub count-is : LongNumber count (field xs 7)
 
 -- The record has what an answer of Count gives, where the place of the count holds a number to begin with.
 abbrev pub CountAs : Counted → ℕ → List ℕ → Type 0
@@ -48,11 +38,6 @@ pub record CountAgrees (xs : List ℕ) : Type 0 where
   pub counts-are : CountFrom (numberFrom 0 (field xs 4)) (numberFrom 0 (field xs 5)) xs
 
 -- ---- Candidates and Solve
-
--- The record has this number and this buffer.
-pub record BufferRecorded (number : ℕ) (after : List ℕ) (xs : List ℕ) : Type 0 where
-  pub answer-is : field xs 5 ≡ number ∷ []
-  pub buffer-is : field xs 6 ≡ after
 
 -- Where a promise leaves open what a call gives: a number and a buffer keep the promise, and a test is true exactly where the record has these.
 pub record Compared (r : Bool) (Promised : ℕ → List ℕ → Type 0) (xs : List ℕ) : Type 0 where

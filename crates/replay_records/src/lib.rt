@@ -1,15 +1,14 @@
 // Replays the list of answers that the oracle writes (oracle/README.md, "The list of answers"): a record is read, its call is run, and the answer
 // and every byte of the buffers are compared with the recorded ones. What cannot be read is a difference.
 mod calls;
-mod fields;
 mod solver_calls;
 
 use calls::mark_sheet_agrees;
 use calls::target_sums_agree;
-use fields::byte;
-use fields::field_count;
-use fields::field_start;
-use fields::is_readable;
+use record_fields::byte;
+use record_fields::field_count;
+use record_fields::field_start;
+use record_fields::is_readable;
 use solver_calls::candidates_agree;
 use solver_calls::count_agrees;
 use solver_calls::solve_agrees;

@@ -1,25 +1,13 @@
 // The calls of the solver, each run on the fields of a record.
-use crate::calls::ROOM;
-use crate::calls::buffer;
-use crate::calls::is_field;
-use crate::calls::is_number;
-use crate::calls::size;
-use crate::fields::field;
-use crate::fields::number;
-ghost use Prim.Native.Nat.{_<_};
-ghost use Rattle.replay_records.specs.Fields.{field as Fields·field};
-ghost use Rattle.replay_records.specs.Agreement.{Says};
-ghost use Rattle.replay_records.specs.SolverAgreement.{LongNumber, CountRecorded, CountFrom, CountAgrees, BufferRecorded, TableFrom, TableFound, CellsFrom, CellsFound};
-
-// Whether a number and a buffer are as recorded.
-fn buffer_recorded(list: &[u8], number: u8, content: &[u8]) -> bool
-    ensures { λ r. ⌜ Says r (BufferRecorded number (now (content .entry)) (now (list .entry))) ⌝ }
-{
-    if !is_number(list, 5, number) {
-        return false;
-    }
-    is_field(list, 6, content)
-}
+use record_fields::ROOM;
+use record_fields::buffer;
+use record_fields::buffer_recorded;
+use record_fields::count_recorded;
+use record_fields::field;
+use record_fields::number;
+use record_fields::size;
+ghost use Rattle.record_fields.specs.Recorded.{Says};
+ghost use Rattle.replay_records.specs.SolverAgreement.{CountFrom, CountAgrees, TableFrom, TableFound, CellsFrom, CellsFound};
 
 // Whether the candidates, with the table to begin with, come out as recorded.
 fn table_agrees(list: &[u8], table: &mut [u8]) -> bool
@@ -73,28 +61,6 @@ pub(crate) fn solve_agrees(list: &[u8]) -> bool
     }
     let mut room = buffer(cells);
     cells_agree(list, &mut room[..n])
-}
-
-// Whether field k is 8 bytes, the number.
-fn is_long_number(list: &[u8], k: usize, v: u64) -> bool
-    requires { ⌜ k < 8 ⌝ }
-    ensures { λ r. ⌜ Says r (LongNumber v (Fields·field (now (list .entry)) k)) ⌝ }
-{
-    let bytes = field(list, k);
-    if bytes.len() != 8 {
-        return false;
-    }
-    number(bytes) == v
-}
-
-// Whether a number and a count are as recorded.
-fn count_recorded(list: &[u8], answer: u8, count: u64) -> bool
-    ensures { λ r. ⌜ Says r (CountRecorded answer count (now (list .entry))) ⌝ }
-{
-    if !is_number(list, 6, answer) {
-        return false;
-    }
-    is_long_number(list, 7, count)
 }
 
 // Whether the count under a cap, with a count to begin with, comes out as recorded.

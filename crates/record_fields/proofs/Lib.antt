@@ -1,0 +1,3 @@
+-- What the proofs of several functions, and of other crates, use.
+pub mod FieldLaws
+pub mod RecordedLaws
