@@ -7,7 +7,7 @@ use native.Mathlib.Omega.{arith}
 use lib.Dec.{eqb}
 use borrow.Author.Tests.{not-true}
 use Rattle.tally.specs.Tally.{span, sum, all, any, count, inFront, ways}
-use Rattle.tally.proofs.TallyLaws.{and-left, and-right, any-in}
+use Rattle.tally.proofs.TallyLaws.{and-left, and-right, any-in, false-of}
 use Rattle.tally.proofs.WayLaws.{all-each, all-ways, way-map}
 use Rattle.rules.specs.Grid.{digits, lawful, untilBlack, inside, lineSum, meets, keepsLine, cell, row, column, line, lines, Puzzle, target, keeps, across}
 use Rattle.rules.proofs.GridLaws.{solution-way, way-solution}
@@ -22,7 +22,6 @@ use Rattle.table.specs.Closed.{Closed}
 use Rattle.table.proofs.Decides.{Decides, implies, is, equal, if-then, each, each-below}
 use Rattle.table.proofs.ClosedFacts.{full, settled, falling, rising, bothGrids}
 use Rattle.table.proofs.ClosedFacts as small
-use Rattle.line_laws.proofs.Lists.{false-of}
 use Rattle.candidates.specs.Remaining.{Remaining}
 
 -- Each way to fill the cells that keeps the puzzle and the marks fits the table.

@@ -10,7 +10,7 @@ use lib.Dec.{ltb}
 use lib.ListN.{length}
 use borrow.Author.Tests.{lt-ltb, le-leb}
 use Rattle.tally.specs.Tally.{any}
-use Rattle.tally.proofs.TallyLaws.{and-left, and-right, and-both}
+use Rattle.tally.proofs.TallyLaws.{and-left, and-right, and-both, false-of}
 use Rattle.rules.specs.Grid.{Puzzle, across, down, keeps}
 use Rattle.rules.specs.Mark.{rejects, markRow, markColumn, markValue}
 use Rattle.rules.proofs.GridLaws.{solution-way}
@@ -22,7 +22,6 @@ use Rattle.table.specs.Steps.{markedAll}
 use Rattle.table.specs.Closed.{Closed}
 use Rattle.table.proofs.Decides.{refuted, is}
 use Rattle.table.proofs.Decides as decides
-use Rattle.line_laws.proofs.Lists.{false-of}
 use Rattle.line_laws.proofs.Half.{first-in, second-in}
 use Rattle.line_laws.specs.Grids.{GridOf}
 use Rattle.settled.proofs.EmptyLaws.{empty-left}

@@ -9,13 +9,12 @@ use lib.ListN.{length, getD}
 use lib.Seq.{ext-getD}
 use Rattle.tally.specs.Tally.{all, span}
 use Rattle.tally.proofs.TallyLaws.{and-left, and-right, and-both, span-in, span-mem, map-at}
-use Rattle.tally.proofs.WayLaws.{all-each, way-length}
+use Rattle.tally.proofs.WayLaws.{all-each, way-length, all-in}
 use Rattle.rules.specs.Grid.{lawful, lineSum, meets, keepsLine, Puzzle, Line, across, down, index, line, lines, target, cell, row, column}
 use Rattle.rules.proofs.GridLaws.{line-in, all-lines, line-keeps, line-way, place-size}
 use Rattle.rules.specs.Mark.{leftBlack}
 use Rattle.table.specs.Table.{Table, places, firstBlack, half, own, fits}
 use Rattle.table.specs.Lines.{Places, rowOf, columnOf}
-use Rattle.line_laws.proofs.Lists.{all-in}
 use Rattle.line_laws.proofs.Parts.{LawfulLine}
 use Rattle.line_laws.proofs.Values.{own-half, own-cell}
 use Rattle.line_laws.specs.Grids.{GridOf}

@@ -9,15 +9,11 @@ use native.Mathlib.Nat.{not-suc-le-zero, le-of-suc-le-suc}
 use lib.Dec.{eqb}
 use lib.ListN.{length, getD}
 use borrow.Author.Tests.{eqb-true, eq-eqb}
-use Rattle.tally.specs.Tally.{oneIf, all, count, keep, join, span}
+use Rattle.tally.specs.Tally.{oneIf, count, keep, join, span}
 use Rattle.tally.specs.Way.{Way, put}
-use Rattle.tally.proofs.TallyLaws.{and-both, test-ext, span-in, span-once, Once}
+use Rattle.tally.proofs.TallyLaws.{test-ext, span-in, span-once, Once}
 
 -- ---- tests
-
-pub false-of : (b : Bool) → (b ≡ true → ⊥) → b ≡ false
-false-of true h = absurd (h refl)
-false-of false h = refl
 
 pub bit-zero : (b : Bool) → oneIf b ≡ 0 → b ≡ false
 bit-zero true e = absurd (omega arith)
@@ -41,12 +37,6 @@ module _ {A : Type 0} where
           (y ∷ xs) × (p x ≡ true)
       go true e m r = ⊎-elim (λ q. (List·Memᴰ·head q, ap p q ∙ e)) (λ q. let w = r q in (List·Memᴰ·tail (w .0), w .1)) (List·Memᴰ·cases-cons m)
       go false e m r = let w = r m in (List·Memᴰ·tail (w .0), w .1)
-
-  -- what holds of each element holds of all
-  pub all-in : {p : A → Bool} (xs : List A) → ((x : A) → List·Memᴰ x xs → p x ≡ true) → all p xs ≡ true
-  unfolding all
-  all-in [] h = refl
-  all-in (x ∷ xs) h = and-both (h x (List·Memᴰ·head refl)) (all-in xs (λ y m. h y (List·Memᴰ·tail m)))
 
   -- tests that agree on each element, and tests that add up on each
   pub count-on : {p q : A → Bool} (xs : List A) → ((x : A) → List·Memᴰ x xs → p x ≡ q x) → count p xs ≡ count q xs

@@ -11,13 +11,13 @@ use borrow.Author.Tests.{eqb-true, eq-eqb, ne-eqb, lt-ltb, le-ltb}
 use Rattle.tally.specs.Tally.{oneIf, count, span}
 use Rattle.tally.specs.Way.{Way}
 use Rattle.tally.proofs.TallyLaws.{and-both, count-map, bit-eq, bit-ne, span-in, span-length, map-at}
-use Rattle.tally.proofs.WayLaws.{way-map}
+use Rattle.tally.proofs.WayLaws.{way-map, all-in}
 use Rattle.rules.specs.Grid.{black, isBlack, digits, lawful, keepsLine}
 use Rattle.rules.specs.Short.{symbols}
 use Rattle.table.specs.Closed.{Arrangement, place, allows, Supported, ClosedLine}
 use Rattle.table.specs.Table.{half, own}
 use Rattle.table.specs.Lines.{Places}
-use Rattle.line_laws.proofs.Lists.{all-in, count-on, count-add, count-most, span-is-once}
+use Rattle.line_laws.proofs.Lists.{count-on, count-add, count-most, span-is-once}
 use Rattle.line_laws.proofs.Pigeonhole.{pigeonhole}
 use Rattle.line_laws.proofs.Half.{digit-range, HalfValue, a-digit, a-first, a-second, half-value, digit-in, first-in, second-in, half-once, half-length}
 use Rattle.line_laws.proofs.Own.{black-before, black-between}

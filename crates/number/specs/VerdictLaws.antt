@@ -1,22 +1,16 @@
 -- None, exactly one and several grids, told apart by the number. Assumes nothing.
-use Prim.Native.Nat.{ℕ, zero, suc, _-_, _*_, _≤_, _<_, min}
-use mathlib.Core.Path.{_≡_, refl}
-use mathlib.Core.List.{List, List·Memᴰ·head, List·Memᴰ·tail}
+use Prim.Native.Nat.{ℕ, zero, suc, _*_, _≤_, _<_, min}
+use mathlib.Core.Path.{_≡_, refl, sym, ap, _∙_}
+use mathlib.Core.Bool.{Bool, true, false, true≢false}
+use mathlib.Core.List.{List}
 use native.Mathlib.Omega.{arith}
 use Rattle.tally.specs.Tally.{count}
-use Rattle.tally.proofs.TallyLaws.{Once, count-none, count-one, span-in, span-past, span-once, bit-ne}
+use Rattle.tally.proofs.TallyLaws.{count-none, count-one, sameList, same-refl, same-eq}
 use Rattle.tally.proofs.WayLaws.{count-find, count-some, count-two, count-another}
-use Rattle.rules.proofs.GridLaws.{solution-way, way-solution}
-use Rattle.rules.specs.Grid.{black, digits, Puzzle}
+use Rattle.rules.proofs.GridLaws.{solution-way, way-solution, symbols-once}
+use Rattle.rules.specs.Grid.{Puzzle}
 use Rattle.rules.specs.Number.{grids, solves, number, unsolvable, unique, multiple, verdictOf, Solution}
 use Rattle.rules.specs.Short.{symbols}
-
--- black and the digits are different values
-pub symbols-once : (n : ℕ) → n ≤ 9 → Once (symbols n)
-unfolding Once digits count
-symbols-once n h c (List·Memᴰ·head e) = rw e (omega (arith, span-past 1 (n - 2) 255 (omega arith)))
-symbols-once n h c (List·Memᴰ·tail m) =
-    let r = span-in 1 (n - 2) c m in omega (arith, bit-ne c black (omega arith), span-once 1 (n - 2) c (r .0) (r .1))
 
 module _ (p : Puzzle) (ms : List ℕ) where
   -- NONE
@@ -50,6 +44,14 @@ module _ (p : Puzzle) (ms : List ℕ) where
     unfolding number grids
     two-several g h s t d =
         count-two (symbols (p .size)) (symbols-once (p .size) fits) (p .size * p .size) (solves p ms) g (solution-way s) (s .right) h (solution-way t) (t .right) d
+
+    -- and where it is 1, all grids are one
+    pub one-only : number p ms ≡ 1 → (g h : List ℕ) → Solution p ms g → Solution p ms h → h ≡ g
+    one-only e g h s t = go (sameList h g) refl
+      where
+        go : (b : Bool) → sameList h g ≡ b → h ≡ g
+        go true q = same-eq h g q
+        go false q = absurd (omega (arith, two-several g h s t (λ z. true≢false (sym (same-refl g) ∙ ap (λ x. sameList x g) (sym z) ∙ q))))
 
     pub several-two : (g : List ℕ) → Solution p ms g → 2 ≤ number p ms → (h : List ℕ) × Solution p ms h × (h ≡ g → ⊥)
     unfolding number grids

@@ -8,8 +8,7 @@ use lib.Dec.{leb}
 use lib.ListN.{length, getD}
 use borrow.Author.Tests.{leb-true}
 use Rattle.tally.specs.Tally.{all}
-use Rattle.tally.proofs.TallyLaws.{and-left, and-right}
-use Rattle.line_laws.proofs.Lists.{false-of}
+use Rattle.tally.proofs.TallyLaws.{and-left, and-right, false-of}
 use Rattle.rules.proofs.SizeLaws.{size-in}
 use Rattle.rules.specs.Size.{Size}
 use Rattle.rules.specs.Check.{maxTarget}

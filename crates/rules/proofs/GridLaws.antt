@@ -1,16 +1,16 @@
 -- The lines of a grid as a list: each is in it, and a test of all of them is a test of the rows and of the columns. Assumes nothing.
-use Prim.Native.Nat.{ℕ, zero, suc, _+_, _*_, _<_}
+use Prim.Native.Nat.{ℕ, zero, suc, _+_, _-_, _*_, _≤_, _<_}
 use mathlib.Core.Path.{_≡_, ap₂, _∙_, subst, sym}
 use mathlib.Core.Logic.{⊎-elim}
 use mathlib.Core.Bool.{Bool, true, _&&_}
-use mathlib.Core.List.{List, map, List·Memᴰ, List·Memᴰ·append-cases, Memᴰ·append-left, Memᴰ·append-right, Memᴰ·map}
+use mathlib.Core.List.{List, map, List·Memᴰ, List·Memᴰ·head, List·Memᴰ·tail, List·Memᴰ·append-cases, Memᴰ·append-left, Memᴰ·append-right, Memᴰ·map}
 use native.Mathlib.Omega.{arith}
 use native.Mathlib.Nat.{mul-le-mul-right}
-use Rattle.tally.specs.Tally.{span, all}
+use Rattle.tally.specs.Tally.{span, all, count}
 use Rattle.tally.specs.Way.{Way}
-use Rattle.tally.proofs.TallyLaws.{all-append, span-in, span-mem, span-length}
+use Rattle.tally.proofs.TallyLaws.{Once, all-append, span-in, span-mem, span-length, span-past, span-once, bit-ne}
 use Rattle.tally.proofs.WayLaws.{of-map, all-each, all-of-map, way-cell, way-map, way-in, in-way}
-use Rattle.rules.specs.Grid.{keepsLine, Line, across, down, index, line, lines, row, column, cell, Puzzle, target, keeps}
+use Rattle.rules.specs.Grid.{black, digits, keepsLine, Line, across, down, index, line, lines, row, column, cell, Puzzle, target, keeps}
 use Rattle.rules.specs.Number.{grids, solves, Solution}
 use Rattle.rules.specs.Short.{symbols}
 
@@ -57,6 +57,13 @@ module _ (n : ℕ) (g : List ℕ) (w : Way (symbols n) (n * n) g) where
       (way-map (λ r. cell n g r c) (span 0 n) (λ r m. let i = span-in 0 n r m in way-cell 0 w (r * n + c) (place-lt n r c (omega arith) h)))
 
 -- ---- a solution is a way that is right
+
+-- black and the digits are different values
+pub symbols-once : (n : ℕ) → n ≤ 9 → Once (symbols n)
+unfolding Once digits count
+symbols-once n h c (List·Memᴰ·head e) = rw e (omega (arith, span-past 1 (n - 2) 255 (omega arith)))
+symbols-once n h c (List·Memᴰ·tail m) =
+    let r = span-in 1 (n - 2) c m in omega (arith, bit-ne c black (omega arith), span-once 1 (n - 2) c (r .0) (r .1))
 
 pub solution-way : {p : Puzzle} {ms g : List ℕ} → Solution p ms g → Way (symbols (p .size)) (p .size * p .size) g
 unfolding grids

@@ -7,7 +7,7 @@ use Rattle.tally.proofs.TallyLaws.{and-left, and-right, and-both, count-none, c
 use Rattle.rules.specs.Grid.{Puzzle, keeps}
 use Rattle.rules.specs.Number.{grids}
 use Rattle.rules.specs.Short.{symbols}
-use Rattle.number.specs.VerdictLaws.{symbols-once}
+use Rattle.rules.proofs.GridLaws.{symbols-once}
 use Rattle.table.specs.Table.{Table, fits, left}
 use Rattle.line_laws.specs.Grids.{GridOf}
 

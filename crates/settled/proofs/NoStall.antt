@@ -10,18 +10,17 @@ use lib.Dec.{eqb}
 use lib.ListN.{length}
 use borrow.Author.Tests.{eqb-true, eq-eqb}
 use Rattle.tally.specs.Tally.{oneIf, sum, count, span}
-use Rattle.tally.proofs.TallyLaws.{test-ext, count-map, count-ext, sum-bits, span-in, span-mem, or-split}
+use Rattle.tally.proofs.TallyLaws.{test-ext, count-map, count-ext, sum-bits, span-in, span-mem, or-split, false-of}
 use Rattle.tally.proofs.WayLaws.{way-length}
 use Rattle.rules.specs.Grid.{isBlack, digits, Puzzle, across, down, index, line, target, cell, row, column}
-use Rattle.rules.proofs.GridLaws.{line-way, line-in}
+use Rattle.rules.proofs.GridLaws.{line-way, line-in, symbols-once}
 use Rattle.rules.specs.Mark.{leftBlack, rightBlack, upperBlack, lowerBlack}
 use Rattle.rules.specs.Short.{symbols}
-use Rattle.number.specs.VerdictLaws.{symbols-once}
 use Rattle.table.proofs.ClosedTest.{covers}
 use Rattle.table.specs.Table.{Table, places, firstBlack, half, everyValue}
 use Rattle.table.specs.Closed.{Supported, Closed}
 use Rattle.table.specs.Reading.{choices, readOff, AllSettled}
-use Rattle.line_laws.proofs.Lists.{false-of, count-pos, count-most, span-is-once, way-mem}
+use Rattle.line_laws.proofs.Lists.{count-pos, count-most, span-is-once, way-mem}
 use Rattle.line_laws.proofs.Pigeonhole.{sum-add, sum-zero, sum-most, length-by-value}
 use Rattle.line_laws.proofs.Half.{digit-range, digits-length, HalfValue, a-digit, a-first, a-second, half-value, digit-in, first-in, second-in}
 use Rattle.line_laws.proofs.Own.{black-before, black-between}

@@ -5,7 +5,7 @@ use mathlib.Core.Bool.{true, false, true≢false}
 use mathlib.Core.Logic.{⊎-elim}
 use Rattle.rules.specs.Grid.{Puzzle, Line, index}
 use Rattle.table.specs.Table.{Table, places, firstBlack}
-use Rattle.line_laws.proofs.Lists.{false-of}
+use Rattle.tally.proofs.TallyLaws.{false-of}
 use Rattle.line_laws.proofs.Half.{first-in, second-in}
 use Rattle.line_laws.proofs.GridLines.{place-in, fits-at}
 use Rattle.table.specs.Lines.{rowOf, columnOf}

@@ -9,7 +9,7 @@ use native.Mathlib.Decide.{ℕ-discrete}
 use lib.Dec.{ltb, leb}
 use borrow.Author.Tests.{ltb-true, leb-true}
 use Rattle.tally.specs.Tally.{all, join}
-use Rattle.tally.proofs.TallyLaws.{and-left, and-right, and-both, span-mem, or-split}
+use Rattle.tally.proofs.TallyLaws.{and-left, and-right, and-both, span-mem, or-split, false-of}
 use Rattle.rules.specs.Grid.{digits, Puzzle, across, down}
 use Rattle.rules.specs.Mark.{rejects, markRow, markColumn, markValue, has, keepsMark}
 use Rattle.rules.specs.Short.{keepsMarks}
@@ -20,7 +20,6 @@ use Rattle.rules.proofs.GridLaws.{way-solution}
 use Rattle.rules.proofs.CheckLaws.{numbered, refusal-none, refusal-none-left, refusal-none-right}
 use Rattle.table.specs.Table.{Table, firstBlack, fits, left, inRow, inColumn}
 use Rattle.table.specs.Steps.{struck, taken, marked, markedAll}
-use Rattle.line_laws.proofs.Lists.{false-of}
 use Rattle.line_laws.proofs.Half.{digit-in, first-in, second-in}
 use Rattle.line_laws.specs.Grids.{GridOf}
 use Rattle.line_laws.proofs.CellValues.{half-every}

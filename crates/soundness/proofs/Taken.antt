@@ -9,14 +9,13 @@ use native.Mathlib.Decide.{ℕ-discrete}
 use lib.Dec.{eqb, ltb, leb}
 use borrow.Author.Tests.{eqb-true, eqb-false, eq-eqb, ne-eqb, lt-ltb, le-leb, ltb-true, leb-true, not-true}
 use Rattle.tally.specs.Tally.{count}
-use Rattle.tally.proofs.TallyLaws.{and-left, and-right, and-both, test-ext, count-split, count-ext, or-split}
+use Rattle.tally.proofs.TallyLaws.{and-left, and-right, and-both, test-ext, count-split, count-ext, or-split, false-of}
 use Rattle.rules.specs.Grid.{Puzzle, Line, across, down, index, keeps}
 use Rattle.rules.specs.Mark.{has, leftBlack, upperBlack}
 use Rattle.rules.specs.Number.{grids}
 use Rattle.table.specs.Table.{Table, firstBlack, half, fits, left, inRow, inColumn}
 use Rattle.table.specs.Steps.{struck, strikes, taken}
 use Rattle.number.specs.CapLaws.{cap-split}
-use Rattle.line_laws.proofs.Lists.{false-of}
 use Rattle.line_laws.proofs.Half.{HalfValue, a-digit, a-first, a-second, half-value, digit-in}
 use Rattle.line_laws.proofs.GridLines.{place-in}
 use Rattle.line_laws.specs.Grids.{GridOf}

@@ -33,6 +33,10 @@ pub or-split : (a b : Bool) → (a || b) ≡ true → (a ≡ true) ⊎ (b ≡ tr
 or-split true b t = inl refl
 or-split false b t = inr t
 
+pub false-of : (b : Bool) → (b ≡ true → ⊥) → b ≡ false
+false-of true h = absurd (h refl)
+false-of false h = refl
+
 -- two tests that pass together are equal
 pub test-ext : (a b : Bool) → (a ≡ true → b ≡ true) → (b ≡ true → a ≡ true) → a ≡ b
 test-ext true b f g = sym (f refl)

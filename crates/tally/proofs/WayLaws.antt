@@ -19,6 +19,12 @@ module _ {A : Type 0} where
   all-each p (List·Memᴰ·head {x = y} {xs = ys} e) t = rw e (and-left (p y) (all p ys) t)
   all-each p (List·Memᴰ·tail {x = y} {xs = ys} m) t = all-each p m (and-right (p y) (all p ys) t)
 
+  -- what holds of each element holds of all
+  pub all-in : {p : A → Bool} (xs : List A) → ((x : A) → List·Memᴰ x xs → p x ≡ true) → all p xs ≡ true
+  unfolding all
+  all-in [] h = refl
+  all-in (x ∷ xs) h = and-both (h x (List·Memᴰ·head refl)) (all-in xs (λ y m. h y (List·Memᴰ·tail m)))
+
   pub all-of-map : {B : Type 0} (p : A → Bool) (f : B → A) (xs : List B) → all p (map f xs) ≡ all (λ x. p (f x)) xs
   unfolding all
   all-of-map p f [] = refl
