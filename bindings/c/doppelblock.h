@@ -82,9 +82,9 @@ enum {
     /* The numbers between the two black cells of a line add up to more than
        255. */
     DOPPELBLOCK_REFUSED_SUM = 10,
-    /* The sheet does not have the targets of the puzzle. */
+    /* The sheet does not keep the rules of the puzzle. */
     DOPPELBLOCK_SHEET_WRONG = 100,
-    /* The sheet has the targets of the puzzle. */
+    /* It does: every digit once in each line, two blacks, all sums. */
     DOPPELBLOCK_SHEET_RIGHT = 101,
     /* No grid keeps the puzzle and the marks. */
     DOPPELBLOCK_UNSOLVABLE = 100,
@@ -111,8 +111,13 @@ uint8_t doppelblock_target_sums(size_t size,
                                 uint8_t *columns, size_t columns_len);
 
 /*
- * Whether `cells` is a right sheet for the puzzle with these targets. A sheet
- * whose sums cannot be computed is wrong.
+ * Whether `cells` is a right sheet for the puzzle with these targets: right
+ * exactly when it keeps the puzzle rules, every digit once in each line, two
+ * blacks, all sums. A cell may be any byte: what is neither black nor a digit of
+ * this size makes the sheet wrong.
+ *
+ * If the puzzle is unique without marks, only the grid that doppelblock_solve
+ * writes is right.
  *
  * Returns DOPPELBLOCK_SHEET_RIGHT, DOPPELBLOCK_SHEET_WRONG or a refusal, checked
  * in this order: 1, 2, 3, 7. Writes nothing.

@@ -60,6 +60,19 @@ static void sums_and_marking(void)
     printf("and its sums are refused with %d\n", answer);
 }
 
+/* A sheet with a digit twice in its second row, marked against its own sums. */
+static void a_repeated_digit(void)
+{
+    const uint8_t cells[16] = {1, 2, B, B, 2, B, 2, B, B, B, 1, 2, B, 2, B, 1};
+    uint8_t rows[4], columns[4];
+
+    uint8_t answer = doppelblock_target_sums(4, cells, 16, rows, 4, columns, 4);
+    expect("its sums", answer, DOPPELBLOCK_DONE);
+    answer = doppelblock_mark_sheet(4, rows, 4, columns, 4, cells, 16);
+    expect("repeated digit", answer, DOPPELBLOCK_SHEET_WRONG);
+    puts("a sheet with a digit twice in a line is wrong, though its sums are right");
+}
+
 static void counting_and_solving(void)
 {
     const uint8_t rows[SIZE] = {0, 1, 0}, columns[SIZE] = {0, 1, 0};
@@ -85,6 +98,7 @@ static void counting_and_solving(void)
 int main(void)
 {
     sums_and_marking();
+    a_repeated_digit();
     counting_and_solving();
     return 0;
 }

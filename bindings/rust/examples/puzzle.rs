@@ -7,6 +7,7 @@ use doppelblock::{
 
 pub fn main() -> Result<(), Refusal> {
     sums_and_marking()?;
+    a_repeated_digit()?;
     counting_and_solving()
 }
 
@@ -26,6 +27,16 @@ fn sums_and_marking() -> Result<(), Refusal> {
 
     let refusal = target_sums(3, &cells, &mut rows, &mut columns).unwrap_err();
     println!("and its sums are refused with {}", refusal.number());
+    Ok(())
+}
+
+/// A sheet with a digit twice in its second row, marked against its own sums.
+fn a_repeated_digit() -> Result<(), Refusal> {
+    let cells = [1, 2, B, B, 2, B, 2, B, B, B, 1, 2, B, 2, B, 1];
+    let (mut rows, mut columns) = ([0; 4], [0; 4]);
+    target_sums(4, &cells, &mut rows, &mut columns)?;
+    assert_eq!(mark_sheet(4, &rows, &columns, &cells)?, Sheet::Wrong);
+    println!("a sheet with a digit twice in a line is wrong, though its sums are right");
     Ok(())
 }
 

@@ -53,9 +53,10 @@ pub const BLACK: u8 = 255;
 /// Whether a sheet is a right answer to its puzzle.
 #[derive(Clone, Copy, Debug, PartialEq, Eq, Hash)]
 pub enum Sheet {
-    /// The sheet has the targets of the puzzle.
+    /// The sheet keeps the puzzle rules: every digit once in each line, two
+    /// blacks, all sums.
     Right,
-    /// It has others, or none can be computed.
+    /// It does not.
     Wrong,
 }
 
@@ -99,7 +100,13 @@ pub fn target_sums(
     }
 }
 
-/// Marks a sheet: `cells` against the puzzle with these targets.
+/// Marks a sheet: `cells` against the puzzle with these targets. It is right
+/// exactly when it keeps the puzzle rules, every digit once in each line, two
+/// blacks, all sums. A cell may be any byte: what is neither black nor a digit of
+/// this size makes the sheet wrong.
+///
+/// If the puzzle is unique without marks, only the grid that [`solve`] writes is
+/// right.
 ///
 /// # Errors
 ///

@@ -59,6 +59,29 @@ fn sheets_are_marked() {
     );
 }
 
+/// The key of a puzzle of size 4, and two sheets with the same sums: a digit twice
+/// in a row, and a digit twice in columns only.
+#[test]
+fn a_repeated_digit_is_wrong() {
+    let (rows, columns) = ([0, 2, 0, 2], [0, 0, 3, 0]);
+    let marked = |cells: &[u8]| mark_sheet(4, &rows, &columns, cells);
+    let key = [2, 1, B, B, 1, B, 2, B, B, B, 1, 2, B, 2, B, 1];
+    let in_a_row = [1, 2, B, B, 2, B, 2, B, B, B, 1, 2, B, 2, B, 1];
+    let in_columns = [1, 2, B, B, 1, B, 2, B, B, B, 1, 2, B, 2, B, 1];
+
+    let mut solved = [9; 16];
+    let verdict = solve(4, &rows, &columns, &[], &mut solved);
+    assert_eq!(verdict, Ok(Verdict::Unique));
+    assert_eq!(solved, key);
+    assert_eq!(marked(&key), Ok(Sheet::Right));
+    for cells in [in_a_row, in_columns] {
+        let (mut row_sums, mut column_sums) = ([9; 4], [9; 4]);
+        target_sums(4, &cells, &mut row_sums, &mut column_sums).expect("it has sums");
+        assert_eq!((row_sums, column_sums), (rows, columns));
+        assert_eq!(marked(&cells), Ok(Sheet::Wrong));
+    }
+}
+
 /// The puzzle of the requirements with two grids.
 const TWO: ([u8; 3], [u8; 3]) = ([0, 1, 0], [0, 1, 0]);
 

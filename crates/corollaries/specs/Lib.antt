@@ -1,3 +1,4 @@
 pub mod Acceptance
 pub mod CountLaws
 pub mod VerdictLaws
+pub mod SheetLaws

@@ -33,7 +33,7 @@ module _ {A : Type 0} where
   sum-most f [] h = omega arith
   sum-most f (x ∷ xs) h = omega (arith, h x (List·Memᴰ·head refl), sum-most f xs (λ y m. h y (List·Memᴰ·tail m)))
 
-  sum-full : (f : A → ℕ) {x : A} {xs : List A} → List·Memᴰ x xs → ((y : A) → List·Memᴰ y xs → f y ≤ 1) → length xs ≤ sum (map f xs) → f x ≡ 1
+  pub sum-full : (f : A → ℕ) {x : A} {xs : List A} → List·Memᴰ x xs → ((y : A) → List·Memᴰ y xs → f y ≤ 1) → length xs ≤ sum (map f xs) → f x ≡ 1
   unfolding sum
   sum-full f (List·Memᴰ·head {x = y} {xs = ys} e) h l =
       rw e (omega (arith, h y (List·Memᴰ·head refl), sum-most f ys (λ z m. h z (List·Memᴰ·tail m))))
@@ -49,6 +49,15 @@ sum-pick : (w : ℕ → ℕ) (c : ℕ) (ds : List ℕ) → sum (map (λ d. oneIf
 unfolding sum count
 sum-pick w c [] = omega arith
 sum-pick w c (d ∷ ds) = omega (arith, pick-step w c d, sum-pick w c ds)
+
+-- counted by the values or by the places, it comes to the same
+pub sum-swap : (ds m : List ℕ) → sum (map (λ d. count (eqb d) m) ds) ≡ sum (map (λ c. count (eqb c) ds) m)
+unfolding sum count
+sum-swap ds [] = sum-zero ds
+sum-swap ds (c ∷ m) =
+    let both = sum-add (λ d. oneIf (eqb d c)) (λ d. count (eqb d) m) ds in
+    let once = sum-on ds (λ d _. sym (mul-one (oneIf (eqb d c)))) in
+    omega (arith, sum-pick (λ _. 1) c ds, sum-swap ds m)
 
 module _ (ds : List ℕ) (o : Once ds) where
   -- the weight of a list of such values: each value's, as often as it stands there

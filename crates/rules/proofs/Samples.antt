@@ -9,7 +9,7 @@ use Rattle.rules.specs.Grid.{digits, lawful, untilBlack, inside, lineSum
 use Rattle.rules.specs.Mark.{rejects, markRow, markColumn, markValue, markSpare, blackWith, has, keepsMark, marksOf}
 use Rattle.rules.specs.Number.{grids, solves, number, capped}
 use Rattle.rules.specs.Check.{refusal, maxTarget, named, checkLine, countChecks, solveChecks, sheetChecks, sumsChecks}
-use Rattle.rules.specs.Sums.{targetSums, sheetRight}
+use Rattle.rules.specs.Sums.{targetSums}
 use Rattle.rules.proofs.SizeFour.{threes, threes-none}
 
 -- ---- counts
@@ -131,11 +131,8 @@ pub record SampleFacts : Type 0 where
   pub just-fits : refusal (checkLine (255 ∷ 128 ∷ 127 ∷ 255 ∷ [])) ≡ 0
   -- nothing is asked of the cells outside the blacks
   pub outside-free : refusal (checkLine (0 ∷ 254 ∷ 255 ∷ 255 ∷ 0 ∷ [])) ≡ 0
-  -- Marking asks for the sums alone: a repeated digit is not looked at.
-  pub sheet-right : sheetRight (three 1 0 0 1 0 0) corner ≡ true
-  pub sheet-wrong : sheetRight (three 1 0 0 0 0 0) corner ≡ false
-  pub sheet-repeats : sheetRight (record { size = 4; rows = 2 ∷ 0 ∷ 0 ∷ 2 ∷ []; columns = 4 ∷ 0 ∷ 0 ∷ 4 ∷ [] }) repeating ≡ true
-  pub sheet-unsummed : sheetRight (three 0 0 0 0 0 0) (255 ∷ 255 ∷ 1 ∷ 255 ∷ 255 ∷ 1 ∷ 1 ∷ 1 ∷ 1 ∷ []) ≡ false
+  -- a repeated digit is not looked at
+  pub sums-repeats : targetSums 4 repeating ring ring ≡ (0, 2 ∷ 0 ∷ 0 ∷ 2 ∷ [], 4 ∷ 0 ∷ 0 ∷ 4 ∷ [])
 
 pub facts : SampleFacts
 unfolding
@@ -145,7 +142,7 @@ unfolding
     rejects blackWith has keepsMark marksOf
     grids solves number capped
     refusal maxTarget named countChecks solveChecks sheetChecks sumsChecks
-    targetSums sheetRight
+    targetSums
     right two three sample samples
 facts =
     record {
@@ -184,8 +181,5 @@ facts =
       too-much = refl;
       just-fits = refl;
       outside-free = refl;
-      sheet-right = refl;
-      sheet-wrong = refl;
-      sheet-repeats = refl;
-      sheet-unsummed = refl;
+      sums-repeats = refl;
     }

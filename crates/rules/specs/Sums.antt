@@ -2,11 +2,9 @@
 use Prim.Native.Nat.{ℕ, zero, suc}
 use mathlib.Core.List.{List, map}
 use lib.ListN.{length}
-use mathlib.Core.Bool.{Bool, _&&_}
-use lib.Dec.{eqb}
-use Rattle.tally.specs.Tally.{span, all, join}
-use Rattle.rules.specs.Grid.{lineSum, meets, row, column, Puzzle, target, line, lines}
-use Rattle.rules.specs.Check.{refusal, checkLine, sumsChecks}
+use Rattle.tally.specs.Tally.{span}
+use Rattle.rules.specs.Grid.{lineSum, row, column}
+use Rattle.rules.specs.Check.{refusal, sumsChecks}
 
 -- A refusal number, and both target slices afterwards: as they were if it is not 0, else they hold the sums of the rows and of the columns.
 abbrev pub summedAs : ℕ → ℕ → List ℕ → List ℕ → List ℕ → ℕ × List ℕ × List ℕ
@@ -16,8 +14,3 @@ summedAs zero n cells rows columns = (0, map (λ r. lineSum (row n cells r)) (sp
 -- Target sums of a size, cells and two target slices: the number, and both slices afterwards.
 unfoldable pub targetSums : ℕ → List ℕ → List ℕ → List ℕ → ℕ × List ℕ × List ℕ
 targetSums n cells rows columns = summedAs (refusal (sumsChecks n cells (length rows) (length columns))) n cells rows columns
-
--- A sheet is right: its target sums are computed, and each meets its target.
-unfoldable pub sheetRight : Puzzle → List ℕ → Bool
-sheetRight p g =
-    eqb (refusal (join (map (λ ℓ. checkLine (line (p .size) g ℓ)) (lines (p .size))))) 0 && all (λ ℓ. meets (target p ℓ) (lineSum (line (p .size) g ℓ))) (lines (p .size))

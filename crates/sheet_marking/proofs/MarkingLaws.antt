@@ -1,26 +1,31 @@
--- The checks of marking, and the sheet, line by line. Assumes nothing.
+-- The checks of marking, a line, and the sheet, line by line. Assumes nothing.
 use Prim.Native.Nat.{ℕ, zero, suc, _*_}
 use mathlib.Core.Path.{_≡_, refl, sym, ap, _∙_}
 use mathlib.Core.Bool.{Bool, true, false, not, _&&_}
-use mathlib.Core.List.{List, [], _∷_, _++_}
+use mathlib.Core.List.{List, [], _∷_}
 use lib.Dec.{eqb}
 use lib.ListN.{length, getD}
 use borrow.Author.Tests.{eq-eqb, ne-eqb, eqb-true, not-true, not-false}
-use Rattle.tally.specs.Tally.{all, join, span}
-use Rattle.rules.specs.Grid.{meets, lineSum, Puzzle, target, puzzle}
-use Rattle.rules.specs.Check.{Check, refusal, checkLine, checkBuffer, puzzleChecks, sheetChecks}
-use Rattle.rules.specs.Sums.{sheetRight}
+use Rattle.tally.specs.Tally.{all, count, span}
+use Rattle.rules.specs.Grid.{isBlack, lawful, lineSum, meets, keepsLine, keeps, Puzzle, target, puzzle}
+use Rattle.rules.specs.Check.{refusal, checkBuffer, puzzleChecks, sheetChecks}
+use Rattle.rules.specs.Strided.{strided}
 use Rattle.rules.proofs.CheckLaws.{refusal-skip, refusal-stop, refusal-none, refusal-none-left, refusal-none-right}
-use Rattle.rules.proofs.StridedLaws.{checks-each, all-each-line}
-use Rattle.rules.specs.Strided.{strided, each}
+use Rattle.rules.proofs.SizeLaws.{size-in, size-fit}
+use Rattle.rules.proofs.StridedLaws.{all-each-line}
 use Rattle.puzzle.proofs.PuzzleLaws.{puzzle-numbered, accepted}
-use Rattle.target_sums.proofs.SumsLaws.{rows-numbered}
+use Rattle.target_sums.specs.declared.Scan.{Scan}
+use Rattle.target_sums.specs.Scanning.{Seen}
+use Rattle.target_sums.proofs.SumsLaws.{rows-within, columns-within}
 use Rattle.sheet_marking.specs.declared.Marked.the-variants.{Refused, Right, Wrong}
-use Rattle.sheet_marking.specs.Answer.{markSheet, MarkLinesAsk}
+use Rattle.sheet_marking.specs.Answer.{markSheet}
+use Rattle.sheet_marking.specs.Digits.{digitsOnce}
+use Rattle.sheet_marking.proofs.DigitLaws.{and-none}
+use Rattle.sheet_marking.specs.Marking.{MarkLinesAsk, MarkSheetAsk}
 
--- line i of those that start at 0, step, .. meets its target
-abbrev pub meetsAt : ℕ → ℕ → List ℕ → ℕ → List ℕ → ℕ → Bool
-meetsAt step stride g n ts i = meets (getD ts i 0) (lineSum (strided (i * step) stride g n))
+-- line i of those that start at 0, step, .. keeps its target
+abbrev pub keepsAt : ℕ → ℕ → List ℕ → ℕ → List ℕ → ℕ → Bool
+keepsAt step stride g n ts i = keepsLine n (getD ts i 0) (strided (i * step) stride g n)
 
 -- ---- the checks
 
@@ -41,46 +46,65 @@ module _ (p : Puzzle) (g : List ℕ) (k : ℕ) (d : k ≡ refusal (puzzleChecks 
   unfolding refusal
   sheet-0 z l = sym (past z ∙ rw (eq-eqb (length g) (p .size * p .size) l))
 
+-- ---- a line: the three tests, each by itself, and all of them
+
+pub not-once : (n t : ℕ) (l : List ℕ) (once : Bool) → once ≡ digitsOnce n l → not once ≡ true → false ≡ keepsLine n t l
+unfolding keepsLine lawful
+not-once n t l once d u = let e : digitsOnce n l ≡ false = sym d ∙ not-true once u in rw (e, and-none (eqb (count isBlack l) 2))
+
+module _ (n t : ℕ) (l : List ℕ) (s : Scan) (k : Seen s l) where
+  pub not-two : (s .blacks ≡ 2 → ⊥) → false ≡ keepsLine n t l
+  unfolding keepsLine lawful
+  not-two z = rw (ne-eqb (count isBlack l) 2 (λ e. z (k .blacks-are ∙ e)))
+
+  module _ (met : Bool) (e : met ≡ meets t (s .sum)) where
+    is-met : meets t (lineSum l) ≡ met
+    is-met = ap (meets t) (sym (k .sum-is)) ∙ sym e
+
+    pub not-met : not met ≡ true → false ≡ keepsLine n t l
+    unfolding keepsLine
+    not-met m = let f : meets t (lineSum l) ≡ false = is-met ∙ not-true met m in rw (f, and-none (lawful n l))
+
+    pub line-right : (once : Bool) → once ≡ digitsOnce n l → not once ≡ false → s .blacks ≡ 2 → not met ≡ false → true ≡ keepsLine n t l
+    unfolding keepsLine lawful
+    line-right once d u z m =
+        let o : digitsOnce n l ≡ true = sym d ∙ not-false once u in
+        let f : meets t (lineSum l) ≡ true = is-met ∙ not-false met m in
+        rw (eq-eqb (count isBlack l) 2 (sym (k .blacks-are) ∙ z), o, f)
+
 -- ---- the sheet
 
-pub fit : (p : Puzzle) (g : List ℕ) (k : ℕ) → k ≡ refusal (sheetChecks p g) → k ≡ 0 → MarkLinesAsk (p .size) g (length (p .rows)) (length (p .columns))
+pub fit : (p : Puzzle) (g : List ℕ) (k : ℕ) → k ≡ refusal (sheetChecks p g) → k ≡ 0 → MarkSheetAsk (p .size) (length g) (length (p .rows)) (length (p .columns))
 unfolding sheetChecks
 fit p g k q z =
     let e = sym q ∙ z in
     let a = accepted p (refusal-none-left (puzzleChecks p) (checkBuffer (p .size) (length g) ∷ []) e) in
     let b = refusal-none 6 _ _ (refusal-none-right (puzzleChecks p) (checkBuffer (p .size) (length g) ∷ []) (puzzle-numbered p) e) in
-    record { size-fits = a .size-fits; rows-long = a .rows-long; columns-long = a .columns-long; cells-fit = eqb-true (length g) (p .size * p .size) (b .0) }
+    record {
+      size = size-in (p .size) (a .size-fits);
+      cells-fit = eqb-true (length g) (p .size * p .size) (b .0);
+      rows-long = a .rows-long;
+      columns-long = a .columns-long;
+    }
+
+module _ {n len rows columns : ℕ} (a : MarkSheetAsk n len rows columns) where
+  pub rows-ask : MarkLinesAsk n 1 n len rows
+  rows-ask = record { size = a .size; within = rows-within n len (size-fit (a .size)) (a .cells-fit); room = a .rows-long }
+
+  pub columns-ask : MarkLinesAsk 1 n n len columns
+  columns-ask = record { size = a .size; within = columns-within n len (size-fit (a .size)) (a .cells-fit); room = a .columns-long }
 
 module _ (n : ℕ) (rows columns g : List ℕ) where
-  abbrev R : List Check
-  R = join (each checkLine n 1 g n n)
+  split : keeps (puzzle n rows columns) g ≡ (all (keepsAt n 1 g n rows) (span 0 n) && all (keepsAt 1 n g n columns) (span 0 n))
+  unfolding keeps target
+  split = all-each-line (λ ℓ l. keepsLine n (target (puzzle n rows columns) ℓ) l) n g
 
-  abbrev C : List Check
-  C = join (each checkLine 1 n g n n)
+  module _ (b : Bool) (q : b ≡ all (keepsAt n 1 g n rows) (span 0 n)) where
+    pub row-fails : not b ≡ true → false ≡ keeps (puzzle n rows columns) g
+    row-fails t = let e : all (keepsAt n 1 g n rows) (span 0 n) ≡ false = sym q ∙ not-true b t in sym (split ∙ rw e)
 
-  abbrev meet : Bool
-  meet = all (meetsAt n 1 g n rows) (span 0 n) && all (meetsAt 1 n g n columns) (span 0 n)
-
-  spread : sheetRight (puzzle n rows columns) g ≡ (eqb (refusal (R ++ C)) 0 && meet)
-  unfolding sheetRight target
-  spread = rw (checks-each n g) (ap (λ b. eqb (refusal (R ++ C)) 0 && b) (all-each-line (λ ℓ l. meets (target (puzzle n rows columns) ℓ) (lineSum l)) n g))
-
-  pub wrong-row : (k : ℕ) → k ≡ refusal R → (k ≡ 0 → ⊥) → false ≡ sheetRight (puzzle n rows columns) g
-  wrong-row k d z = let h : refusal R ≡ 0 → ⊥ = λ e. z (d ∙ e) in sym (spread ∙ rw (refusal-stop R C h, ne-eqb (refusal R) 0 h))
-
-  pub wrong-column : (k m : ℕ) → k ≡ refusal R → k ≡ 0 → m ≡ refusal C → (m ≡ 0 → ⊥) → false ≡ sheetRight (puzzle n rows columns) g
-  wrong-column k m d e f z = sym (spread ∙ rw (refusal-skip R C (rows-numbered n g 0 0) (sym d ∙ e), ne-eqb (refusal C) 0 (λ q. z (f ∙ q))))
-
-  -- where the sums are computed
-  summed : (k m : ℕ) → k ≡ refusal R → k ≡ 0 → m ≡ refusal C → m ≡ 0 → sheetRight (puzzle n rows columns) g ≡ meet
-  summed k m d e f h = spread ∙ rw (refusal-skip R C (rows-numbered n g 0 0) (sym d ∙ e), eq-eqb (refusal C) 0 (sym f ∙ h))
-
-  pub other-row : (k m : ℕ) → k ≡ refusal R → k ≡ 0 → m ≡ refusal C → m ≡ 0 → (b : Bool) → b ≡ all (meetsAt n 1 g n rows) (span 0 n) → not b ≡ true → false ≡ sheetRight (puzzle n rows columns) g
-  other-row k m d e f h b q t = sym (summed k m d e f h ∙ rw (sym q ∙ not-true b t))
-
-  pub by-columns : (k m : ℕ) → k ≡ refusal R → k ≡ 0 → m ≡ refusal C → m ≡ 0 → (b : Bool) → b ≡ all (meetsAt n 1 g n rows) (span 0 n) → not b ≡ false →
-      (r : Bool) → r ≡ all (meetsAt 1 n g n columns) (span 0 n) → r ≡ sheetRight (puzzle n rows columns) g
-  by-columns k m d e f h b q t r l = l ∙ sym (summed k m d e f h ∙ rw (sym q ∙ not-false b t))
+    pub by-columns : not b ≡ false → (r : Bool) → r ≡ all (keepsAt 1 n g n columns) (span 0 n) → r ≡ keeps (puzzle n rows columns) g
+    by-columns t r l = let e : all (keepsAt n 1 g n rows) (span 0 n) ≡ true = sym q ∙ not-false b t in l ∙ sym (split ∙ rw e)
 
 -- ---- the answer
 
@@ -89,7 +113,7 @@ unfolding markSheet
 marked-refused p g zero e z = absurd (z refl)
 marked-refused p g (suc k) e z = rw (← e)
 
-module _ (p : Puzzle) (g : List ℕ) (k : ℕ) (d : k ≡ refusal (sheetChecks p g)) (e : k ≡ 0) (b : Bool) (s : b ≡ sheetRight p g) where
+module _ (p : Puzzle) (g : List ℕ) (k : ℕ) (d : k ≡ refusal (sheetChecks p g)) (e : k ≡ 0) (b : Bool) (s : b ≡ keeps p g) where
   pub marked-right : b ≡ true → Right ≡ markSheet p g
   unfolding markSheet
   marked-right t = rw (sym d ∙ e, sym s ∙ t)

@@ -1,23 +1,75 @@
-// Marking a sheet of cells against the targets of a puzzle.
+// Marking a sheet of cells against the targets of a puzzle: each of its lines has to keep the rules and its target.
 use puzzle::puzzle_refusal;
 use puzzle::wide;
-use target_sums::lines_refusal;
 use target_sums::scan_line;
+use value::Value;
 ghost use mathlib.Core.Path.{_≡_};
-ghost use Prim.Native.Nat.{_*_};
+ghost use Prim.Native.Nat.{_*_, min};
 ghost use lib.ListN.{length, getD};
 ghost use Rattle.tally.specs.Tally.{all, span};
-ghost use Rattle.rules.specs.Grid.{meets, lineSum, puzzle};
+ghost use Rattle.rules.specs.Grid.{meets, keepsLine, keeps, puzzle};
 ghost use Rattle.rules.specs.Check.{refusal, sheetChecks};
-ghost use Rattle.rules.specs.Sums.{sheetRight};
 ghost use Rattle.rules.specs.Strided.{strided};
-ghost use Rattle.target_sums.specs.Scanning.{LinesInside};
-ghost use Rattle.sheet_marking.specs.Answer.{markSheet, MarkLinesAsk};
+ghost use Rattle.target_sums.specs.Scanning.{LineAsk};
+ghost use Rattle.sheet_marking.specs.Answer.{markSheet};
+ghost use Rattle.sheet_marking.specs.Digits.{digitsOnce, OneMet, HasMet};
+ghost use Rattle.sheet_marking.specs.Marking.{MarkLineAsk, MarkLinesAsk, MarkSheetAsk};
 
 pub enum Marked {
     Refused(u8),
     Right,
     Wrong,
+}
+
+// What a walk along a line has met, bit d for the byte d: once or more, and twice or more. Bit 15 stands for all larger bytes.
+pub struct Met {
+    pub seen: u16,
+    pub twice: u16,
+}
+
+fn bit_of(c: u8) -> usize
+    ensures { λ r. ⌜ r ≡ min c 15 ⌝ }
+{
+    let v = wide(c);
+    if v < 15 { v } else { 15 }
+}
+
+// Without a branch on the cell: a walk takes as long for every line.
+fn meet(m: Met, c: u8) -> Met
+    ensures { λ r. ⌜ OneMet m c r ⌝ }
+{
+    let v = bit_of(c);
+    let b = 1u16 << v;
+    Met {
+        seen: m.seen | b,
+        twice: m.twice | (m.seen & b),
+    }
+}
+
+fn walk_line(cells: &[u8], start: usize, stride: usize, n: usize) -> Met
+    requires { ⌜ LineAsk start stride n (length (now cells)) ⌝ }
+    ensures { λ r. ⌜ HasMet r (strided start stride (now (cells .entry)) n) ⌝ }
+{
+    let mut m = Met { seen: 0, twice: 0 };
+    let mut j = 0;
+    while j < n {
+        m = meet(m, cells[start + j * stride]);
+        j += 1;
+    }
+    m
+}
+
+// Each digit of size n stands in the line once.
+fn digits_once(cells: &[u8], start: usize, stride: usize, n: usize) -> bool
+    requires { ⌜ MarkLineAsk start stride n (length (now cells)) ⌝ }
+    ensures { λ r. ⌜ r ≡ digitsOnce n (strided start stride (now (cells .entry)) n) ⌝ }
+{
+    let m = walk_line(cells, start, stride, n);
+    let all = Value::all_digits(n);
+    if m.seen & all != all {
+        return false;
+    }
+    m.twice & all == 0
 }
 
 // A target is met by a sum.
@@ -28,15 +80,32 @@ fn meets_target(t: u8, s: usize) -> bool
     w == s
 }
 
-// Each of n lines, which start at 0, step, 2 step, .., meets its target.
-fn sums_meet(cells: &[u8], step: usize, stride: usize, n: usize, targets: &[u8]) -> bool
-    requires { ⌜ (LinesInside step stride n (length (now cells))) × (length (now targets) ≡ n) ⌝ }
-    ensures { λ r. ⌜ r ≡ all (λ i. meets (getD (now (targets .entry)) i 0) (lineSum (strided (i * step) stride (now (cells .entry)) n))) (span 0 n) ⌝ }
+// The line keeps its target: each digit once, two blacks, and the sum.
+fn line_keeps(cells: &[u8], start: usize, stride: usize, n: usize, t: u8) -> bool
+    requires { ⌜ MarkLineAsk start stride n (length (now cells)) ⌝ }
+    ensures { λ r. ⌜ r ≡ keepsLine n t (strided start stride (now (cells .entry)) n) ⌝ }
+{
+    if !digits_once(cells, start, stride, n) {
+        return false;
+    }
+    let s = scan_line(cells, start, stride, n);
+    if s.blacks != 2 {
+        return false;
+    }
+    if !meets_target(t, s.sum) {
+        return false;
+    }
+    true
+}
+
+// Each of n lines, which start at 0, step, 2 step, .., keeps its target.
+fn lines_keep(cells: &[u8], step: usize, stride: usize, n: usize, targets: &[u8]) -> bool
+    requires { ⌜ MarkLinesAsk step stride n (length (now cells)) (length (now targets)) ⌝ }
+    ensures { λ r. ⌜ r ≡ all (λ i. keepsLine n (getD (now (targets .entry)) i 0) (strided (i * step) stride (now (cells .entry)) n)) (span 0 n) ⌝ }
 {
     let mut i = 0;
     while i < n {
-        let s = scan_line(cells, i * step, stride, n);
-        if !meets_target(targets[i], s.sum) {
+        if !line_keeps(cells, i * step, stride, n, targets[i]) {
             return false;
         }
         i += 1;
@@ -58,26 +127,18 @@ fn sheet_refusal(n: usize, rows: &[u8], columns: &[u8], cells: &[u8]) -> u8
     0
 }
 
-// The sums of the sheet are computed, and each meets its target.
+// The sheet keeps the puzzle: each row, then each column keeps its target.
 fn sheet_right(n: usize, rows: &[u8], columns: &[u8], cells: &[u8]) -> bool
-    requires { ⌜ MarkLinesAsk n (now cells) (length (now rows)) (length (now columns)) ⌝ }
-    ensures { λ r. ⌜ r ≡ sheetRight (puzzle n (now (rows .entry)) (now (columns .entry))) (now (cells .entry)) ⌝ }
+    requires { ⌜ MarkSheetAsk n (length (now cells)) (length (now rows)) (length (now columns)) ⌝ }
+    ensures { λ r. ⌜ r ≡ keeps (puzzle n (now (rows .entry)) (now (columns .entry))) (now (cells .entry)) ⌝ }
 {
-    let a = lines_refusal(cells, n, 1, n);
-    if a != 0 {
+    if !lines_keep(cells, n, 1, n, rows) {
         return false;
     }
-    let b = lines_refusal(cells, 1, n, n);
-    if b != 0 {
-        return false;
-    }
-    if !sums_meet(cells, n, 1, n, rows) {
-        return false;
-    }
-    sums_meet(cells, 1, n, n, columns)
+    lines_keep(cells, 1, n, n, columns)
 }
 
-// Right exactly when the target sums of the cells are computed and meet the targets of the puzzle.
+// Right exactly when the cells keep the puzzle.
 pub fn mark_sheet(size: usize, rows: &[u8], columns: &[u8], cells: &[u8]) -> Marked
     ensures { λ r. ⌜ r ≡ markSheet (puzzle size (now (rows .entry)) (now (columns .entry))) (now (cells .entry)) ⌝ }
 {

@@ -29,11 +29,17 @@ pub fn records() -> Vec<Record> {
     records
 }
 
-/// A right sheet, and the same with its cells or one of its targets changed.
-fn sheets(rng: &mut SeededRng, size: usize) -> [Record; 4] {
+/// A right sheet, the same with its cells or one of its targets changed, and the
+/// same with each digit a 1, with its own sums: wrong from size 4 on.
+fn sheets(rng: &mut SeededRng, size: usize) -> [Record; 5] {
     let (cells, rows, columns) = right(rng, size);
     let mut damaged = cells.clone();
     inputs::damage(rng, &mut damaged);
+    let ones: Vec<u8> = cells
+        .iter()
+        .map(|&cell| if cell == BLACK { BLACK } else { 1 })
+        .collect();
+    let (ones_rows, ones_columns) = reference::target_sums(size, &ones).expect("two blacks a line");
     let other = |targets: &[u8], place: usize| {
         let mut targets = targets.to_vec();
         let greatest = rules::greatest_target(size) as u8;
@@ -46,6 +52,7 @@ fn sheets(rng: &mut SeededRng, size: usize) -> [Record; 4] {
         record(size, &rows, &columns, &damaged),
         record(size, &other(&rows, place), &columns, &cells),
         record(size, &rows, &other(&columns, place), &cells),
+        record(size, &ones_rows, &ones_columns, &ones),
     ]
 }
 
@@ -71,8 +78,7 @@ fn right(rng: &mut SeededRng, size: usize) -> (Vec<u8>, Vec<u8>, Vec<u8>) {
 fn record(size: usize, rows: &[u8], columns: &[u8], cells: &[u8]) -> Record {
     let rules = rules::mark_sheet(size, rows, columns, cells);
     if let Ok(right) = rules {
-        let sums = reference::target_sums(size, cells);
-        let rust = sums == Ok((rows.to_vec(), columns.to_vec()));
+        let rust = reference::is_right(size, rows, columns, cells);
         assert_eq!(rust, right, "the Rust differs from the rules: run compare");
     }
     let number = match rules {

@@ -44,11 +44,23 @@ impl Call for MarkSheet {
             Family::whole("size 2, targets 0 to 2, all over 0 1 254 255", || {
                 every_sheet(2, &[0, 1, 2], &[0, 1, 254, 255])
             }),
-            Family::whole("size 3, all targets, all over 1 255", || {
-                every_sheet(3, &[0, 1], &[1, 255])
+            Family::whole("size 3, all targets, all over 1 2 255", || {
+                every_sheet(3, &[0, 1], &[1, 2, 255])
+            }),
+            Family::whole("size 3, own sums, all over 0 1 254 255", || {
+                inputs::all_lists(9, &[0, 1, 254, 255]).map(|cells| with_own_sums(3, cells))
             }),
             Family::whole("limits", limits),
             Family::drawn("right sheets", right_sheet),
+            Family::drawn("right sheets with one or two digits changed", |rng| {
+                let mut input = right_sheet(rng);
+                change_digits(rng, input.size, &mut input.cells);
+                with_own_sums(input.size, input.cells)
+            }),
+            Family::drawn("rows right and columns not, or the reverse", |rng| {
+                let size = inputs::any_size(rng);
+                with_own_sums(size, right_one_way(rng, size))
+            }),
             Family::drawn("damaged sheets", |rng| {
                 let mut input = right_sheet(rng);
                 inputs::damage(rng, &mut input.cells);
@@ -129,12 +141,11 @@ fn against_rules(
     }
 }
 
-/// `try_new` decides on the targets, `compute_targets` on the sheet.
+/// `try_new` decides on the targets, `count_solutions` on the sheet.
 fn against_rust(input: &Input, rules: Result<bool, u8>) -> Result<Label, String> {
-    let accepted = reference::accepts(input.size, &input.rows, &input.columns);
-    let rust = if accepted {
-        let sums = reference::target_sums(input.size, &input.cells);
-        Ok(sums == Ok((input.rows.clone(), input.columns.clone())))
+    let (size, rows, columns) = (input.size, &input.rows, &input.columns);
+    let rust = if reference::accepts(size, rows, columns) {
+        Ok(reference::is_right(size, rows, columns, &input.cells))
     } else {
         Err(3)
     };
@@ -167,6 +178,34 @@ fn right_sheet(rng: &mut SeededRng) -> Input {
     with_own_sums(size, inputs::grid(rng, size))
 }
 
+/// Puts another digit into one or two cells, so that a sheet keeps its blacks
+/// and mostly has sums.
+fn change_digits(rng: &mut SeededRng, size: usize, cells: &mut [u8]) {
+    for _ in 0..=rng.below(2) {
+        let place = rng.below(cells.len());
+        if cells[place] != BLACK {
+            cells[place] = 1 + rng.below(size - 2) as u8;
+        }
+    }
+}
+
+/// A sheet whose rows have every digit once and whose columns mostly have not,
+/// or the other way round; all have two blacks.
+fn right_one_way(rng: &mut SeededRng, size: usize) -> Vec<u8> {
+    let mut cells = inputs::grid(rng, size);
+    for row in cells.chunks_exact_mut(size) {
+        let whites: Vec<usize> = (0..size).filter(|&c| row[c] != BLACK).collect();
+        if !whites.is_empty() && rng.below(2) == 0 {
+            let pick = |rng: &mut SeededRng| whites[rng.below(whites.len())];
+            row.swap(pick(rng), pick(rng));
+        }
+    }
+    if rng.below(2) == 0 {
+        cells = inputs::transposed(size, &cells);
+    }
+    cells
+}
+
 /// Where the cells have no sums, all targets are 0.
 fn with_own_sums(size: usize, cells: Vec<u8>) -> Input {
     let zeros = (vec![0; size], vec![0; size]);
@@ -192,8 +231,8 @@ fn change_target(rng: &mut SeededRng, size: usize, rows: &mut [u8], columns: &mu
     };
 }
 
-/// Two blacks in each line and sums that often stay within the targets' range:
-/// the digits themselves are not looked at.
+/// Two blacks in each line and sums that often stay within the targets' range,
+/// with digits that repeat themselves.
 fn any_digits(rng: &mut SeededRng) -> Input {
     let size = inputs::any_size(rng);
     let mut cells = inputs::grid(rng, size);

@@ -221,6 +221,41 @@ fn a_sum_of_255_that_is_refused_is_found() {
     assert!(input.is_some());
 }
 
+/// Two blacks in each line and the sums: what marking asked before.
+#[test]
+fn a_repeated_digit_that_gets_full_marks_is_found() {
+    let input = found_in_marking(|size, rows, columns, cells| {
+        match good_marking(size, rows, columns, cells) {
+            100 => {
+                let sums = rules::target_sums(size, cells, size, size);
+                100 + u8::from(sums == Ok((rows.to_vec(), columns.to_vec())))
+            }
+            number => number,
+        }
+    });
+    assert!(input.is_some_and(|input| input.starts_with("size 3")));
+}
+
+#[test]
+fn digits_looked_at_in_the_rows_only_are_found() {
+    let input = found_in_marking(|size, rows, columns, cells| {
+        match good_marking(size, rows, columns, cells) {
+            100 => {
+                let sums = rules::target_sums(size, cells, size, size);
+                let in_row = |row: &[u8], digit: u8| row.contains(&digit);
+                let digits = 1..=size as u8 - 2;
+                let rows_are_right = cells
+                    .chunks_exact(size)
+                    .all(|row| digits.clone().all(|digit| in_row(row, digit)));
+                let right = rows_are_right && sums == Ok((rows.to_vec(), columns.to_vec()));
+                100 + u8::from(right)
+            }
+            number => number,
+        }
+    });
+    assert!(input.is_some());
+}
+
 #[test]
 fn a_sheet_whose_columns_are_not_looked_at_is_found() {
     let input = found_in_marking(|size, rows, columns, cells| {

@@ -29,10 +29,12 @@ mod caught;
 mod cells;
 mod draw;
 mod limit;
+mod marking;
 mod solver;
 mod sums;
 
 pub use draw::random_grid;
 pub use limit::Limit;
+pub use marking::is_right;
 pub use solver::{Solved, accepts, candidates, count, count_within, opens, solve, solve_within};
 pub use sums::{ReadyGrid, overflow_is_checked, ready_grid, target_sums};

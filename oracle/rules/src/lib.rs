@@ -6,6 +6,7 @@
 mod every;
 mod grids;
 mod line;
+mod marking;
 mod marks;
 mod searching;
 mod sums;
@@ -14,9 +15,10 @@ mod table;
 pub use every::{LISTED, every_grid};
 pub use grids::{keeps_mark, satisfies, ways};
 pub use line::{LinePuzzle, line_puzzle};
+pub use marking::mark_sheet;
 pub use marks::{Mark, marks_refusal};
 pub use searching::{candidates_refusal, count_refusal, marks_of, solve_refusal, word_bytes};
-pub use sums::{Sums, line_sum, mark_sheet, target_sums};
+pub use sums::{Sums, line_sum, target_sums};
 pub use table::{has_grid, is_filled, shows_mark};
 
 /// Cell byte of a cell that holds nothing.

@@ -1,4 +1,4 @@
-use crate::{BLACK, EMPTY, cells_refusal, lengths_refusal, puzzle_refusal, size_refusal};
+use crate::{BLACK, EMPTY, cells_refusal, lengths_refusal, size_refusal};
 
 /// The sums of the rows and of the columns.
 pub type Sums = (Vec<u8>, Vec<u8>);
@@ -16,15 +16,6 @@ pub fn target_sums(
     match refusal {
         Some(number) => Err(number),
         None => sums(size, cells),
-    }
-}
-
-/// Marking: whether the sheet is right.
-pub fn mark_sheet(size: usize, rows: &[u8], columns: &[u8], cells: &[u8]) -> Result<bool, u8> {
-    let refusal = puzzle_refusal(size, rows, columns).or_else(|| cells_refusal(size, cells.len()));
-    match refusal {
-        Some(number) => Err(number),
-        None => Ok(sums(size, cells) == Ok((rows.to_vec(), columns.to_vec()))),
     }
 }
 

@@ -71,6 +71,27 @@ fn marking_checks_size_lengths_targets_cells() {
     assert_eq!(mark_sheet(3, &[1, 0, 0], &[1, 0, 0], &[0; 9]), Ok(false));
 }
 
+/// The key of one puzzle, two sheets that have its sums, and other bytes.
+#[test]
+fn a_right_sheet_has_every_digit_once_in_each_line() {
+    let (rows, columns) = ([0, 2, 0, 2], [0, 0, 3, 0]);
+    let key = [2, 1, B, B, 1, B, 2, B, B, B, 1, 2, B, 2, B, 1];
+    assert_eq!(mark_sheet(4, &rows, &columns, &key), Ok(true));
+
+    let in_a_row = [1, 2, B, B, 2, B, 2, B, B, B, 1, 2, B, 2, B, 1];
+    let in_columns_only = [1, 2, B, B, 1, B, 2, B, B, B, 1, 2, B, 2, B, 1];
+    let own_sums = Ok((rows.to_vec(), columns.to_vec()));
+    for repeated in [in_a_row, in_columns_only] {
+        assert_eq!(target_sums(4, &repeated, 4, 4), own_sums);
+        assert_eq!(mark_sheet(4, &rows, &columns, &repeated), Ok(false));
+    }
+    for other in [0, 3, 254, B] {
+        let mut cells = key;
+        cells[0] = other;
+        assert_eq!(mark_sheet(4, &rows, &columns, &cells), Ok(false));
+    }
+}
+
 #[test]
 fn the_greatest_target_of_each_size() {
     for size in 2..=9 {
