@@ -2,6 +2,7 @@
 //! `bench stack` measures the stack of the calls that search; `bench sheet` times
 //! whole programs.
 
+mod marking;
 mod measure;
 mod puzzles;
 mod searching;
@@ -43,6 +44,7 @@ fn usage() -> ExitCode {
 fn time_all(rounds: usize) {
     say_how_built();
     sums::run(rounds);
+    marking::run(rounds);
     searching::run(rounds);
 }
 
