@@ -1,1 +1,1 @@
-// Nothing to run: what the laws of the number say of the answers of Count and Solve, in specs/.
+// Nothing to run: what the laws of the number say of the answers of Count, Solve and marking, in specs/.

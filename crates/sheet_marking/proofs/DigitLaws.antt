@@ -29,11 +29,11 @@ and-none false = refl
 
 -- ---- digits of a size
 
-pub digit-in : (n d : ℕ) → isDigitOf n d ≡ true → List·Memᴰ d (digits n)
+digit-in : (n d : ℕ) → isDigitOf n d ≡ true → List·Memᴰ d (digits n)
 unfolding digits
 digit-in n d t = span-mem 1 (n - 2) d (leb-true 1 d (and-left (leb 1 d) _ t)) (omega (arith, leb-true d (n - 2) (and-right (leb 1 d) _ t)))
 
-pub in-digit : (n d : ℕ) → List·Memᴰ d (digits n) → isDigitOf n d ≡ true
+in-digit : (n d : ℕ) → List·Memᴰ d (digits n) → isDigitOf n d ≡ true
 unfolding digits
 in-digit n d m = let r = span-in 1 (n - 2) d m in and-both (le-leb 1 d (r .0)) (le-leb d (n - 2) (omega (arith, r .1)))
 

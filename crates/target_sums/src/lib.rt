@@ -91,7 +91,7 @@ fn line_refusal(cells: &[u8], start: usize, stride: usize, n: usize) -> u8
 }
 
 // The number that n lines, which start at 0, step, 2 step, .., are refused by, or 0.
-pub fn lines_refusal(cells: &[u8], step: usize, stride: usize, n: usize) -> u8
+fn lines_refusal(cells: &[u8], step: usize, stride: usize, n: usize) -> u8
     requires { ⌜ LinesInside step stride n (length (now cells)) ⌝ }
     ensures { λ r. ⌜ r ≡ refusal (join (each checkLine step stride (now (cells .entry)) n n)) ⌝ }
 {
