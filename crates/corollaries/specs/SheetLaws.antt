@@ -25,6 +25,7 @@ use Rattle.engine.specs.declared.Counted.the-variants.{Count}
 use Rattle.engine.specs.declared.Solved.the-variants.{Unique, Multiple}
 use Rattle.engine.specs.Answer.{countAnswer, solvedAs, solveAnswer, SolveWritten}
 use Rattle.engine.proofs.SolveLaws.{solve-count}
+use Rattle.corollaries.specs.VerdictLaws.{one-answered}
 use Rattle.sheet_marking.specs.declared.Marked.the-variants.{Right}
 use Rattle.sheet_marking.specs.Answer.{markedAs, markSheet}
 
@@ -80,19 +81,13 @@ none-right p cap h a cells e =
 
 -- ---- the grid that Solve writes without marks
 
-unique-one : (k grids : ℕ) → solvedAs k grids ≡ Unique → (k ≡ 0) × (grids ≡ 1)
-unique-one zero zero e = (refl, cc)
-unique-one zero (suc zero) e = (refl, refl)
-unique-one zero (suc (suc m)) e = (refl, cc)
-unique-one (suc k) m e = (cc, cc)
-
 multiple-some : (k grids : ℕ) → solvedAs k grids ≡ Multiple → (k ≡ 0) × (0 < grids)
 multiple-some zero zero e = let z : _≡_ {A = ℕ} 0 1 = cc in absurd (omega arith)
 multiple-some zero (suc m) e = (refl, omega arith)
 multiple-some (suc k) m e = let z : _≡_ {A = ℕ} 0 1 = cc in absurd (omega arith)
 
 shown : (k grids : ℕ) → (solvedAs k grids ≡ Unique) ⊎ (solvedAs k grids ≡ Multiple) → (k ≡ 0) × (0 < grids)
-shown k grids (inl e) = let o = unique-one k grids e in (o .0, omega (arith, o .1))
+shown k grids (inl e) = let o = one-answered k grids e in (o .0, omega (arith, o .1))
 shown k grids (inr e) = multiple-some k grids e
 
 module _ (p : Puzzle) (cells key : List ℕ) (w : SolveWritten p [] cells key) where
@@ -106,6 +101,6 @@ module _ (p : Puzzle) (cells key : List ℕ) (w : SolveWritten p [] cells key) w
   pub key-only : solveAnswer p [] (length cells) ≡ Unique → (sheet : List ℕ) → (markSheet p sheet ≡ Right → sheet ≡ key) × (sheet ≡ key → markSheet p sheet ≡ Right)
   key-only e sheet =
       let a = right-counted p key (key-right (inl e)) in (
-        λ r. one-only p [] (count-size p (a .0) .high) (unique-one (refusal (solveChecks p [] (length cells))) (number p []) e .1) key sheet (a .1) (right-counted p sheet r .1),
+        λ r. one-only p [] (count-size p (a .0) .high) (one-answered (refusal (solveChecks p [] (length cells))) (number p []) e .1) key sheet (a .1) (right-counted p sheet r .1),
         λ q. ap (markSheet p) q ∙ key-right (inl e),
       )

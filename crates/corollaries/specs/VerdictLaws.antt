@@ -38,10 +38,11 @@ none-answered zero e = refl
 none-answered (suc zero) e = cc
 none-answered (suc (suc k)) e = cc
 
-one-answered : (k : ℕ) → solvedAs 0 k ≡ Unique → k ≡ 1
-one-answered zero e = cc
-one-answered (suc zero) e = refl
-one-answered (suc (suc k)) e = cc
+pub one-answered : (k grids : ℕ) → solvedAs k grids ≡ Unique → (k ≡ 0) × (grids ≡ 1)
+one-answered zero zero e = (refl, cc)
+one-answered zero (suc zero) e = (refl, refl)
+one-answered zero (suc (suc m)) e = (refl, cc)
+one-answered (suc k) grids e = (cc, cc)
 
 none-below : (k l : ℕ) → k ≤ l → l ≡ 0 → solvedAs 0 k ≡ Unsolvable
 none-below k l h e = let z : k ≡ 0 = omega arith in rw z
@@ -68,7 +69,7 @@ module _ (p : Puzzle) (ms : List ℕ) (m : ℕ) (ns : List ℕ) (len : ℕ) (e :
   pub verdict-more-one : solveAnswer p (ms ++ ns) len ≡ Unique →
       (solveAnswer p (ms ++ m ∷ ns) len ≡ Unsolvable) ⊎ (solveAnswer p (ms ++ m ∷ ns) len ≡ Unique)
   verdict-more-one a =
-      let v = one-answered (number p (ms ++ ns)) (sym without-mark ∙ a) in
+      let v = one-answered 0 (number p (ms ++ ns)) (sym without-mark ∙ a) .1 in
       ⊎-elim (λ q. inl (with-mark ∙ q)) (λ q. inr (with-mark ∙ q))
       (one-below (number p (ms ++ m ∷ ns)) (number p (ms ++ ns)) (number-more p ms m ns) v)
 

@@ -1,7 +1,7 @@
 -- A walk that meets the digits of a line: one cell more, and the end. Assumes nothing.
 use Prim.Native.Nat.{ℕ, zero, suc, _+_, _-_, _*_, _%_, _^_, _<_, min, max}
 use mathlib.Core.Path.{_≡_, refl, sym, ap, _∙_}
-use mathlib.Core.Bool.{Bool, true, false, _&&_}
+use mathlib.Core.Bool.{Bool, true, false}
 use mathlib.Core.List.{List, [], _∷_, _++_, List·Memᴰ}
 use native.Mathlib.Nat.{add-zero}
 use native.Mathlib.Omega.{arith}
@@ -22,10 +22,6 @@ use Rattle.value.specs.Mask.{maskOf}
 use Rattle.value.proofs.MaskLaws.{digits-most}
 use Rattle.sheet_marking.specs.declared.Met.{Met}
 use Rattle.sheet_marking.specs.Digits.{digitsOnce, isDigitOf, HasMet, OneMet}
-
-pub and-none : (a : Bool) → (a && false) ≡ false
-and-none true = refl
-and-none false = refl
 
 -- ---- digits of a size
 

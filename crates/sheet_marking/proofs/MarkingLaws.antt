@@ -1,7 +1,7 @@
 -- The checks of marking, a line, and the sheet, line by line. Assumes nothing.
 use Prim.Native.Nat.{ℕ, zero, suc, _*_}
 use mathlib.Core.Path.{_≡_, refl, sym, ap, _∙_}
-use mathlib.Core.Bool.{Bool, true, false, not, _&&_}
+use mathlib.Core.Bool.{Bool, true, false, not, _&&_, and-false}
 use mathlib.Core.List.{List, [], _∷_}
 use lib.Dec.{eqb}
 use lib.ListN.{length, getD}
@@ -20,7 +20,6 @@ use Rattle.target_sums.proofs.SumsLaws.{rows-within, columns-within}
 use Rattle.sheet_marking.specs.declared.Marked.the-variants.{Refused, Right, Wrong}
 use Rattle.sheet_marking.specs.Answer.{markSheet}
 use Rattle.sheet_marking.specs.Digits.{digitsOnce}
-use Rattle.sheet_marking.proofs.DigitLaws.{and-none}
 use Rattle.sheet_marking.specs.Marking.{MarkLinesAsk, MarkSheetAsk}
 
 -- line i of those that start at 0, step, .. keeps its target
@@ -50,7 +49,7 @@ module _ (p : Puzzle) (g : List ℕ) (k : ℕ) (d : k ≡ refusal (puzzleChecks 
 
 pub not-once : (n t : ℕ) (l : List ℕ) (once : Bool) → once ≡ digitsOnce n l → not once ≡ true → false ≡ keepsLine n t l
 unfolding keepsLine lawful
-not-once n t l once d u = let e : digitsOnce n l ≡ false = sym d ∙ not-true once u in rw (e, and-none (eqb (count isBlack l) 2))
+not-once n t l once d u = let e : digitsOnce n l ≡ false = sym d ∙ not-true once u in rw (e, and-false (eqb (count isBlack l) 2))
 
 module _ (n t : ℕ) (l : List ℕ) (s : Scan) (k : Seen s l) where
   pub not-two : (s .blacks ≡ 2 → ⊥) → false ≡ keepsLine n t l
@@ -63,7 +62,7 @@ module _ (n t : ℕ) (l : List ℕ) (s : Scan) (k : Seen s l) where
 
     pub not-met : not met ≡ true → false ≡ keepsLine n t l
     unfolding keepsLine
-    not-met m = let f : meets t (lineSum l) ≡ false = is-met ∙ not-true met m in rw (f, and-none (lawful n l))
+    not-met m = let f : meets t (lineSum l) ≡ false = is-met ∙ not-true met m in rw (f, and-false (lawful n l))
 
     pub line-right : (once : Bool) → once ≡ digitsOnce n l → not once ≡ false → s .blacks ≡ 2 → not met ≡ false → true ≡ keepsLine n t l
     unfolding keepsLine lawful
