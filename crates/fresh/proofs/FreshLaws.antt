@@ -6,17 +6,17 @@ use mathlib.Core.Bool.{Bool, true, false, _&&_, _||_, cond, or-true}
 use mathlib.Core.List.{List}
 use native.Mathlib.Omega.{arith}
 use native.Mathlib.Decide.{decLt}
-use lib.Dec.{eqb, ltb, leb}
-use borrow.Author.Tests.{lt-ltb, le-leb, leb-true, ltb-true, eqb-true}
+use lib.Dec.{ltb, leb}
+use borrow.Author.Tests.{lt-ltb, le-leb, leb-true, ltb-true}
 use Rattle.tally.specs.Tally.{span, all}
 use Rattle.tally.specs.Tally as tally
-use Rattle.tally.proofs.TallyLaws.{span-mem, and-left, and-right}
-use Rattle.tally.proofs.WayLaws.{all-each}
+use Rattle.tally.proofs.TallyLaws.{and-left, and-right}
 use Rattle.rules.specs.Grid.{digits}
 use Rattle.rules.proofs.SizeLaws.{at-size}
 use Rattle.rules.specs.Size.{Size}
 use Rattle.table.specs.Table.{half, everyValue}
 use Rattle.value.specs.Mask.{maskOf}
+use Rattle.value.proofs.MaskLaws.{mask-bits}
 use Rattle.bits.specs.Bit.{bit}
 use Rattle.bits.specs.Sum.{sumOver}
 use Rattle.bits.proofs.SumLaws.{sum-same}
@@ -45,17 +45,9 @@ room-right = refl
 unfoldable pub fullBit : ℕ → ℕ → Bool
 fullBit n v = (leb 1 v && ltb v (n - 1)) || (leb 8 v && ltb v 12)
 
-bits-test : ℕ → Bool
-bits-test n = all (λ v. eqb (bit v (maskOf (everyValue n))) (cond (fullBit n v) 1 0)) (span 0 16)
-
-bits-right : all bits-test (span 2 8) ≡ true
-unfolding bits-test fullBit maskOf everyValue half digits span all bit tally.sum
-bits-right = refl
-
 pub full-bit : (n v : ℕ) → Size n → v < 16 → bit v (maskOf (everyValue n)) ≡ cond (fullBit n v) 1 0
-unfolding bits-test
-full-bit n v s h =
-    eqb-true _ _ (all-each (λ v. eqb (bit v (maskOf (everyValue n))) (cond (fullBit n v) 1 0)) (span-mem 0 16 v (omega arith) (omega arith)) (at-size bits-test bits-right n s))
+unfolding fullBit maskOf everyValue half digits span all bit tally.sum
+full-bit = mask-bits everyValue (λ n v. cond (fullBit n v) 1 0) refl
 
 named-value : (n v : ℕ) → fullBit n v ≡ true → ValueOf n v
 unfolding fullBit ValueOf

@@ -1,4 +1,4 @@
--- A walk that meets the digits of a line: one cell more, and the end. Assumes nothing.
+-- How often each digit stands in a line: no cell, one cell more, and the end. Assumes nothing.
 use Prim.Native.Nat.{ℕ, zero, suc, _+_, _-_, _*_, _%_, _^_, _<_, min, max}
 use mathlib.Core.Path.{_≡_, refl, sym, ap, _∙_}
 use mathlib.Core.Bool.{Bool, true, false}
@@ -17,11 +17,10 @@ use Rattle.bits.proofs.BitLaws.{bit-lt, bit-and, bit-or, bit-none, bit-pow-same
 use Rattle.rules.specs.Grid.{digits}
 use Rattle.rules.specs.Size.{Size}
 use Rattle.rules.proofs.InsideLaws.{count-snoc}
-use Rattle.rules.proofs.SizeLaws.{at-size}
 use Rattle.value.specs.Mask.{maskOf}
-use Rattle.value.proofs.MaskLaws.{digits-most}
-use Rattle.sheet_marking.specs.declared.Met.{Met}
-use Rattle.sheet_marking.specs.Digits.{digitsOnce, isDigitOf, HasMet, OneMet}
+use Rattle.value.proofs.MaskLaws.{digits-most, mask-bits}
+use Rattle.sheet_marking.specs.declared.Multiplicity.{Multiplicity}
+use Rattle.sheet_marking.specs.Digits.{digitsOnce, isDigitOf, MultiplicityOf, CellCounted}
 
 -- ---- digits of a size
 
@@ -33,18 +32,9 @@ in-digit : (n d : ℕ) → List·Memᴰ d (digits n) → isDigitOf n d ≡ true
 unfolding digits
 in-digit n d m = let r = span-in 1 (n - 2) d m in and-both (le-leb 1 d (r .0)) (le-leb d (n - 2) (omega (arith, r .1)))
 
--- computed at each size
-mask-test : ℕ → Bool
-mask-test n = all (λ d. eqb (bit d (maskOf (digits n))) (oneIf (isDigitOf n d))) (span 0 16)
-
-mask-right : all mask-test (span 2 8) ≡ true
-unfolding mask-test maskOf digits span all bit sum
-mask-right = refl
-
 mask-bit : (n d : ℕ) → Size n → d < 16 → bit d (maskOf (digits n)) ≡ oneIf (isDigitOf n d)
-unfolding mask-test
-mask-bit n d s h =
-    eqb-true _ _ (all-each (λ d. eqb (bit d (maskOf (digits n))) (oneIf (isDigitOf n d))) (span-mem 0 16 d (omega arith) (omega arith)) (at-size mask-test mask-right n s))
+unfolding maskOf digits span all bit sum
+mask-bit = mask-bits digits (λ n d. oneIf (isDigitOf n d)) refl
 
 -- what one cell more makes of a count k, up to 1 and beyond it
 seen-step : (b : Bool) (k : ℕ) → max (min 1 k) (oneIf b) ≡ min 1 (k + oneIf b)
@@ -70,9 +60,9 @@ twice-step false k = rw (none-new (min 1 (k - 1)) (min 1 k), add-zero)
 
 -- ---- the walk
 
-pub met-none : (m : Met) (l : List ℕ) → l ≡ [] → m .seen ≡ 0 → m .twice ≡ 0 → HasMet m l
+pub nothing-counted : (m : Multiplicity) (l : List ℕ) → l ≡ [] → m .seen ≡ 0 → m .twice ≡ 0 → MultiplicityOf m l
 unfolding count
-met-none m l e s t =
+nothing-counted m l e s t =
     record {
       seen-are = λ d h. ap (bit d) s ∙ bit-none d ∙ rw e (omega arith);
       twice-are = λ d h. ap (bit d) t ∙ bit-none d ∙ rw e (omega arith);
@@ -87,7 +77,7 @@ own-bit v c x e f d h =
       | no q ↦ ap (bit d) one ∙ bit-pow-other d v (λ g. q (omega arith)) ∙ sym (bit-ne d c q)
     ]
 
-module _ (m : Met) (v c : ℕ) (e : v ≡ min c 15) (x : ℕ) (f : x ≡ 1 * 2 ^ v % 65536) (l : List ℕ) (k : HasMet m l) (d : ℕ) (h : d < 15) where
+module _ (m : Multiplicity) (v c : ℕ) (e : v ≡ min c 15) (x : ℕ) (f : x ≡ 1 * 2 ^ v % 65536) (l : List ℕ) (k : MultiplicityOf m l) (d : ℕ) (h : d < 15) where
   seen-next : bit d (bitOr (m .seen) x) ≡ min 1 (count (eqb d) (l ++ c ∷ []))
   seen-next =
       bit-or d (m .seen) x ∙ rw (own-bit v c x e f d h, k .seen-are d h, count-snoc (eqb d) l c) (seen-step (eqb d c) (count (eqb d) l))
@@ -97,11 +87,11 @@ module _ (m : Met) (v c : ℕ) (e : v ≡ min c 15) (x : ℕ) (f : x ≡ 1 * 2 ^
       bit-or d (m .twice) (bitAnd (m .seen) x)
       ∙ rw (bit-and d (m .seen) x, own-bit v c x e f d h, k .seen-are d h, k .twice-are d h, count-snoc (eqb d) l c) (twice-step (eqb d c) (count (eqb d) l))
 
-pub met-next : (m : Met) (v c : ℕ) → v ≡ min c 15 → (r : Met) → r .seen ≡ bitOr (m .seen) (1 * 2 ^ v % 65536) →
-    r .twice ≡ bitOr (m .twice) (bitAnd (m .seen) (1 * 2 ^ v % 65536)) → OneMet m c r
-met-next m v c e r s t =
+pub cell-counted : (m : Multiplicity) (v c : ℕ) → v ≡ min c 15 → (r : Multiplicity) → r .seen ≡ bitOr (m .seen) (1 * 2 ^ v % 65536) →
+    r .twice ≡ bitOr (m .twice) (bitAnd (m .seen) (1 * 2 ^ v % 65536)) → CellCounted m c r
+cell-counted m v c e r s t =
     record {
-      met = λ l k. record { seen-are = λ d h. ap (bit d) s ∙ seen-next m v c e _ refl l k d h; twice-are = λ d h. ap (bit d) t ∙ twice-next m v c e _ refl l k d h };
+      one-more = λ l k. record { seen-are = λ d h. ap (bit d) s ∙ seen-next m v c e _ refl l k d h; twice-are = λ d h. ap (bit d) t ∙ twice-next m v c e _ refl l k d h };
     }
 
 -- ---- the end
@@ -125,7 +115,7 @@ module _ (mask x : ℕ) where
         bits-none 16 (bitAnd x mask) (and-lt 16 x mask hx hm)
         (λ d h. elim (ℕ-discrete (bit d mask) 1) [ yes o ↦ omega (arith, f d h o, bit-and d x mask) | no o ↦ omega (arith, bit-and d x mask, bit-lt d mask) ])
 
-module _ (n : ℕ) (s : Size n) (l : List ℕ) (m : Met) (k : HasMet m l) (mask : ℕ) (e : mask ≡ maskOf (digits n)) where
+module _ (n : ℕ) (s : Size n) (l : List ℕ) (m : Multiplicity) (k : MultiplicityOf m l) (mask : ℕ) (e : mask ≡ maskOf (digits n)) where
   small : mask < 65536
   small = omega (arith, digits-most n s)
 

@@ -12,7 +12,7 @@ ghost use Rattle.rules.specs.Check.{refusal, sheetChecks};
 ghost use Rattle.rules.specs.Strided.{strided};
 ghost use Rattle.target_sums.specs.Scanning.{LineAsk};
 ghost use Rattle.sheet_marking.specs.Answer.{markSheet};
-ghost use Rattle.sheet_marking.specs.Digits.{digitsOnce, OneMet, HasMet};
+ghost use Rattle.sheet_marking.specs.Digits.{digitsOnce, CellCounted, MultiplicityOf};
 ghost use Rattle.sheet_marking.specs.Marking.{MarkLineAsk, MarkLinesAsk, MarkSheetAsk};
 
 pub enum Marked {
@@ -21,8 +21,8 @@ pub enum Marked {
     Wrong,
 }
 
-// What a walk along a line has met, bit d for the byte d: once or more, and twice or more. Bit 15 stands for all larger bytes.
-pub struct Met {
+// How often each byte stands in a line, bit d for the byte d: once or more, and twice or more. Bit 15 stands for all larger bytes.
+pub struct Multiplicity {
     pub seen: u16,
     pub twice: u16,
 }
@@ -35,25 +35,25 @@ fn bit_of(c: u8) -> usize
 }
 
 // Without a branch on the cell: a walk takes as long for every line.
-fn meet(m: Met, c: u8) -> Met
-    ensures { λ r. ⌜ OneMet m c r ⌝ }
+fn count_cell(m: Multiplicity, c: u8) -> Multiplicity
+    ensures { λ r. ⌜ CellCounted m c r ⌝ }
 {
     let v = bit_of(c);
     let b = 1u16 << v;
-    Met {
+    Multiplicity {
         seen: m.seen | b,
         twice: m.twice | (m.seen & b),
     }
 }
 
-fn walk_line(cells: &[u8], start: usize, stride: usize, n: usize) -> Met
+fn walk_line(cells: &[u8], start: usize, stride: usize, n: usize) -> Multiplicity
     requires { ⌜ LineAsk start stride n (length (now cells)) ⌝ }
-    ensures { λ r. ⌜ HasMet r (strided start stride (now (cells .entry)) n) ⌝ }
+    ensures { λ r. ⌜ MultiplicityOf r (strided start stride (now (cells .entry)) n) ⌝ }
 {
-    let mut m = Met { seen: 0, twice: 0 };
+    let mut m = Multiplicity { seen: 0, twice: 0 };
     let mut j = 0;
     while j < n {
-        m = meet(m, cells[start + j * stride]);
+        m = count_cell(m, cells[start + j * stride]);
         j += 1;
     }
     m

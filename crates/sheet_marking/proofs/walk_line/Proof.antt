@@ -1,4 +1,4 @@
--- `sheet_marking::walk_line` meets its contract: the walk has met the first j cells. Assumes nothing.
+-- `sheet_marking::walk_line` meets its contract: the walk has counted the first j cells. Assumes nothing.
 use Prim.Native.Nat.{_≤_, _-_}
 use mathlib.Core.Path.{_≡_, refl}
 use native.Mathlib.Omega.{arith}
@@ -6,32 +6,32 @@ use borrow.Author.Needs.{needs}
 use Rattle.tally.specs.Tally.{span}
 use Rattle.rules.proofs.StridedLaws.{strided-next}
 use Rattle.rules.specs.Strided.{strided}
-use Rattle.sheet_marking.specs.Digits.{HasMet}
-use Rattle.sheet_marking.proofs.DigitLaws.{met-none}
+use Rattle.sheet_marking.specs.Digits.{MultiplicityOf}
+use Rattle.sheet_marking.proofs.DigitLaws.{nothing-counted}
 use Rattle.sheet_marking.proofs.walk_line.Statement.{statement}
 use Rattle.sheet_marking.proofs.walk_line.Tie as tie
 
 abbrev Inv-loop : tie.InvT-loop
-Inv-loop cells start stride n m₀ j₀ m j = (j ≤ n) × HasMet m (strided start stride cells j)
+Inv-loop cells start stride n m₀ j₀ m j = (j ≤ n) × MultiplicityOf m (strided start stride cells j)
 
 abbrev μ-loop : tie.MeasureT-loop
 μ-loop cells start stride n m₀ j₀ m j = n - j
 
 loop-holds : tie.Need-loop-holds Inv-loop μ-loop
 unfolding strided span
-loop-holds c = (search needs, met-none _ _ refl refl refl)
+loop-holds c = (search needs, nothing-counted _ _ refl refl refl)
 
-mul-meet : tie.Need-mul-meet Inv-loop μ-loop
-mul-meet c = omega (arith, c .before .before .before .pre .reach (c .before .loop .j) (c .loop-test .taken))
+mul-count-cell : tie.Need-mul-count-cell Inv-loop μ-loop
+mul-count-cell c = omega (arith, c .before .before .before .pre .reach (c .before .loop .j) (c .loop-test .taken))
 
-add-meet : tie.Need-add-meet Inv-loop μ-loop
-add-meet c = omega (arith, c .before .before .before .pre .reach (c .before .loop .j) (c .loop-test .taken))
+add-count-cell : tie.Need-add-count-cell Inv-loop μ-loop
+add-count-cell c = omega (arith, c .before .before .before .pre .reach (c .before .loop .j) (c .loop-test .taken))
 
-shared-slice-read-meet : tie.Need-shared-slice-read-meet Inv-loop μ-loop
-shared-slice-read-meet c = c .before .before .before .before .pre .reach _ (c .before .loop-test .taken)
+shared-slice-read-count-cell : tie.Need-shared-slice-read-count-cell Inv-loop μ-loop
+shared-slice-read-count-cell c = c .before .before .before .before .pre .reach _ (c .before .loop-test .taken)
 
-meet-requires : tie.Need-meet-requires Inv-loop μ-loop
-meet-requires c κs = search needs
+count-cell-requires : tie.Need-count-cell-requires Inv-loop μ-loop
+count-cell-requires c κs = search needs
 
 add-j : tie.Need-add-j Inv-loop μ-loop
 add-j c = search needs
@@ -40,7 +40,7 @@ loop-less : tie.Need-loop-less Inv-loop μ-loop
 loop-less c = search needs
 
 loop-again : tie.Need-loop-again Inv-loop μ-loop
-loop-again c = (search needs, rw strided-next (c .meet .ensures .met _ (c .before .before .before .loop .inv .1)))
+loop-again c = (search needs, rw strided-next (c .count-cell .ensures .one-more _ (c .before .before .before .loop .inv .1)))
 
 returns : tie.Need-returns Inv-loop μ-loop
 returns c = let e : c .before .loop .j ≡ c .before .before .before .args .n = omega arith in rw e at (c .before .loop .inv .1)
@@ -52,10 +52,10 @@ walk-line-spec =
     Inv-loop
     μ-loop
     loop-holds
-    mul-meet
-    add-meet
-    shared-slice-read-meet
-    meet-requires
+    mul-count-cell
+    add-count-cell
+    shared-slice-read-count-cell
+    count-cell-requires
     add-j
     loop-less
     loop-again
