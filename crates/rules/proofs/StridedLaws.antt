@@ -1,12 +1,13 @@
 -- A line read by its start and its stride, so that rows and columns are one case. Assumes nothing.
-use Prim.Native.Nat.{ℕ, zero, suc, _+_, _*_}
+use Prim.Native.Nat.{ℕ, zero, suc, _+_, _*_, _<_}
 use mathlib.Core.Path.{_≡_, ap, _∙_}
 use mathlib.Core.Bool.{Bool, _&&_}
 use mathlib.Core.List.{List, [], _∷_, _++_, map, map-append, map-map}
 use native.Mathlib.Omega.{arith}
 use native.Mathlib.Nat.{add-comm, mul-one, add-zero}
-use lib.ListN.{getD}
+use lib.ListN.{length, getD, length-map}
 use Rattle.tally.specs.Tally.{span, all, join}
+use Rattle.tally.proofs.TallyLaws.{span-length, map-at}
 use Rattle.rules.specs.Grid.{Line, across, down, line, lines, cell, row, column}
 use Rattle.rules.proofs.GridLaws.{all-lines}
 use Rattle.rules.specs.Check.{checkLine}
@@ -27,6 +28,14 @@ module _ {A : Type 0} (f : ℕ → A) where
 pub strided-next : (start stride : ℕ) (g : List ℕ) (k : ℕ) → strided start stride g (k + 1) ≡ strided start stride g k ++ getD g (start + k * stride) 0 ∷ []
 unfolding strided
 strided-next start stride g k = map-next (λ j. getD g (start + j * stride) 0) k
+
+pub strided-length : (start stride : ℕ) (g : List ℕ) (k : ℕ) → length (strided start stride g k) ≡ k
+unfolding strided
+strided-length start stride g k = length-map (span 0 k) (λ j. getD g (start + j * stride) 0) ∙ span-length 0 k
+
+pub strided-at : (start stride : ℕ) (g : List ℕ) (k j : ℕ) → j < k → getD (strided start stride g k) j 0 ≡ getD g (start + j * stride) 0
+unfolding strided
+strided-at start stride g k j h = let z : 0 + j ≡ j = omega arith in rw z at (map-at (λ j. getD g (start + j * stride) 0) 0 k j h)
 
 pub row-strided : (n : ℕ) (g : List ℕ) (r : ℕ) → row n g r ≡ strided (r * n) 1 g n
 unfolding row cell strided

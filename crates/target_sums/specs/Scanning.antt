@@ -2,9 +2,9 @@
 use Prim.Native.Nat.{ℕ, _+_, _*_, _≤_, _<_}
 use mathlib.Core.Path.{_≡_}
 use mathlib.Core.List.{List, [], _∷_, _++_}
-use lib.ListN.{length}
-use Rattle.tally.specs.Tally.{count}
-use Rattle.rules.specs.Grid.{isBlack, inside, lineSum}
+use lib.ListN.{length, drop}
+use Rattle.tally.specs.Tally.{sum, count}
+use Rattle.rules.specs.Grid.{isBlack, untilBlack, inside, lineSum}
 use Rattle.rules.specs.CheckParts.{isEmpty}
 use Rattle.rules.specs.Strided.{strided}
 use Rattle.target_sums.specs.declared.Scan.{Scan}
@@ -26,10 +26,20 @@ pub record OneMore (s : Scan) (c : ℕ) (r : Scan) : Type 0 where
   pub seen : (l : List ℕ) → Seen s l → Seen r (l ++ c ∷ [])
   pub small : (k : ℕ) → Small s k → Small r (k + 1)
 
+-- r is the place behind the first black of the n cells l, or their end
+pub record BehindBlack (r n : ℕ) (l : List ℕ) : Type 0 where
+  pub in-line : r ≤ n
+  pub between : inside l ≡ untilBlack (drop r l)
+
 -- each cell of the line lies in the buffer
 pub record LineAsk (start stride n len : ℕ) : Type 0 where
   pub short : n ≤ 9
   pub reach : (j : ℕ) → j < n → start + j * stride < len
+
+-- and what lies between a place and the next black adds up to a byte
+pub record ToBlackAsk (start stride n : ℕ) (g : List ℕ) (from : ℕ) : Type 0 where
+  pub within : LineAsk start stride n (length g)
+  pub fits : sum (untilBlack (drop from (strided start stride g n))) ≤ 255
 
 -- each cell of each of the n lines does
 pub record LinesInside (step stride n len : ℕ) : Type 0 where

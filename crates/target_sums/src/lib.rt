@@ -5,14 +5,14 @@ use puzzle::targets_fit;
 use puzzle::wide;
 ghost use mathlib.Core.Path.{_≡_};
 ghost use Prim.Native.Nat.{_≤_};
-ghost use lib.ListN.{length};
-ghost use Rattle.tally.specs.Tally.{join};
-ghost use Rattle.rules.specs.Grid.{lineSum};
+ghost use lib.ListN.{length, drop};
+ghost use Rattle.tally.specs.Tally.{sum, join};
+ghost use Rattle.rules.specs.Grid.{untilBlack, lineSum};
 ghost use Rattle.rules.specs.Check.{refusal, checkLine, sumsChecks};
 ghost use Rattle.rules.specs.Sums.{targetSums};
 ghost use Rattle.rules.specs.Strided.{strided, each};
 ghost use Rattle.target_sums.specs.Answer.{SumsAnswered, numberOf};
-ghost use Rattle.target_sums.specs.Scanning.{Seen, Small, OneMore, LineAsk, LinesInside, SumsAsk};
+ghost use Rattle.target_sums.specs.Scanning.{Seen, Small, OneMore, BehindBlack, LineAsk, ToBlackAsk, LinesInside, SumsAsk};
 
 pub enum Summed {
     Refused(u8),
@@ -106,12 +106,46 @@ fn lines_refusal(cells: &[u8], step: usize, stride: usize, n: usize) -> u8
     0
 }
 
-fn line_sum(cells: &[u8], start: usize, stride: usize, n: usize) -> u8
+// The place behind the first black of a line, or its end.
+fn past_black(cells: &[u8], start: usize, stride: usize, n: usize) -> usize
+    requires { ⌜ LineAsk start stride n (length (now cells)) ⌝ }
+    ensures { λ r. ⌜ BehindBlack r n (strided start stride (now (cells .entry)) n) ⌝ }
+{
+    let mut j = 0;
+    while j < n {
+        if cells[start + j * stride] == 255 {
+            return j + 1;
+        }
+        j += 1;
+    }
+    n
+}
+
+// The sum of the cells from a place of a line up to the next black.
+fn sum_to_black(cells: &[u8], start: usize, stride: usize, n: usize, from: usize) -> u8
+    requires { ⌜ ToBlackAsk start stride n (now cells) from ⌝ }
+    ensures { λ r. ⌜ r ≡ sum (untilBlack (drop from (strided start stride (now (cells .entry)) n))) ⌝ }
+{
+    let mut s = 0;
+    let mut j = from;
+    while j < n {
+        let c = cells[start + j * stride];
+        if c == 255 {
+            return s;
+        }
+        s += c;
+        j += 1;
+    }
+    s
+}
+
+// The sum between the blacks: no cell behind the second is read.
+pub fn line_sum(cells: &[u8], start: usize, stride: usize, n: usize) -> u8
     requires { ⌜ (LineAsk start stride n (length (now cells))) × (lineSum (strided start stride (now cells) n) ≤ 255) ⌝ }
     ensures { λ r. ⌜ r ≡ lineSum (strided start stride (now (cells .entry)) n) ⌝ }
 {
-    let s = scan_line(cells, start, stride, n);
-    s.sum as u8
+    let from = past_black(cells, start, stride, n);
+    sum_to_black(cells, start, stride, n, from)
 }
 
 fn put_sums(cells: &[u8], step: usize, stride: usize, n: usize, out: &mut [u8])
