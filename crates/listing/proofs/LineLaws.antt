@@ -14,13 +14,14 @@ use Rattle.bits.specs.Sum.{sumOver}
 use Rattle.bits.proofs.SumLaws.{sum-zero, sum-first, sum-same}
 use Rattle.rules.specs.Size.{Size}
 use Rattle.rules.specs.Check.{maxTarget}
+use Rattle.rules.proofs.SizeLaws.{target-most}
 use Rattle.words.specs.Word.{arrangementOf, wordOf, part}
 use Rattle.fresh.specs.Fresh.{Fresh}
 use Rattle.arcs.specs.Arc.{lives, live, support}
 use Rattle.table.specs.Lines.{blackAt, LineOf}
 use Rattle.slab.specs.Layout.{lengthsAt, lengthPlace, perLine, livePlace, supportPlace}
 use Rattle.listing.specs.Numbers.{sideOf, numbersFor}
-use Rattle.listing.proofs.NumberFacts.{target-most, numbers-few, numbers-are, numbers-known}
+use Rattle.listing.proofs.NumberFacts.{numbers-few, numbers-are, numbers-known}
 use Rattle.listing.specs.Listing.{listOf, Elsewhere, Added, AddAsk, Unlisted, Lists, LinesAsk, LinesTo, targetAt, OpenAsk, LinesListed}
 use Rattle.listing.proofs.AddLaws.{map-same, added-lives, added-both, addable-first, addable-after}
 

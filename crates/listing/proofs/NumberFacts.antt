@@ -51,15 +51,7 @@ unfolding
     arrangements insides outsides fromStarts subsetsWith subsets digits meets maxTarget span all keep join sum bit
 list-tests = refl
 
-target-tests : all (λ n. leb (maxTarget n) 28) (span 2 8) ≡ true
-unfolding maxTarget span all
-target-tests = refl
-
 -- ---- what the tests say
-
--- no sum is above 28
-pub target-most : (n : ℕ) → Size n → maxTarget n ≤ 28
-target-most n z = leb-true (maxTarget n) 28 (at-size (λ n. leb (maxTarget n) 28) target-tests n z)
 
 alike-eq : (a b : Bool) → alike a b ≡ true → a ≡ b
 unfolding alike
