@@ -6,8 +6,8 @@ use mathlib.Core.Bool.{Bool, not, _&&_, _||_, cond}
 use mathlib.Core.List.{List, [], _∷_, _++_, map}
 use lib.Dec.{eqb, ltb, leb}
 use lib.ListN.{length}
-use Rattle.tally.specs.Tally.{all, count, join}
-use Rattle.rules.specs.Grid.{isBlack, inside, lineSum, Puzzle, line, lines}
+use Rattle.tally.specs.Tally.{all, join}
+use Rattle.rules.specs.Grid.{twoBlacks, inside, lineSum, Puzzle, line, lines}
 use Rattle.rules.specs.Mark.{markRow, markColumn, markValue, markSpare}
 
 -- A check: its number, and whether the input passes.
@@ -49,7 +49,7 @@ checkBuffer n len = check 7 (eqb len (n * n))
 -- 8, 9, 10: a line has exactly two blacks, only numbers between them, and a sum of at most 255.
 abbrev pub checkLine : List ℕ → List Check
 checkLine l =
-    check 8 (eqb (count isBlack l) 2) ∷ check 9 (all (λ c. not (eqb c 0)) (inside l)) ∷ check 10 (leb (lineSum l) 255) ∷ []
+    check 8 (twoBlacks l) ∷ check 9 (all (λ c. not (eqb c 0)) (inside l)) ∷ check 10 (leb (lineSum l) 255) ∷ []
 
 -- ---- the checks of each call, in its order
 

@@ -19,9 +19,17 @@ isBlack c = eqb c black
 unfoldable pub digits : ℕ → List ℕ
 digits n = span 1 (n - 2)
 
+-- Each digit stands in the line once.
+abbrev pub digitsOnce : ℕ → List ℕ → Bool
+digitsOnce n l = all (λ d. eqb (count (eqb d) l) 1) (digits n)
+
+-- Two of its cells are black.
+abbrev pub twoBlacks : List ℕ → Bool
+twoBlacks l = eqb (count isBlack l) 2
+
 -- A line is lawful: two blacks, and each digit once.
 unfoldable pub lawful : ℕ → List ℕ → Bool
-lawful n l = eqb (count isBlack l) 2 && all (λ d. eqb (count (eqb d) l) 1) (digits n)
+lawful n l = twoBlacks l && digitsOnce n l
 
 -- The cells in front of the first black.
 unfoldable pub untilBlack : List ℕ → List ℕ

@@ -1,4 +1,6 @@
 -- What the proofs of several functions use.
-mod DigitLaws
+mod CountLaws
+mod FaultFacts
+pub mod FaultLaws
 mod MarkingLaws
 mod SheetFacts

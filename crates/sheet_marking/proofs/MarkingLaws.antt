@@ -1,25 +1,21 @@
--- The checks of marking, a line, and the sheet, line by line. Assumes nothing.
+-- The checks of marking, and the sheet, line by line. Assumes nothing.
 use Prim.Native.Nat.{ℕ, zero, suc, _*_}
-use mathlib.Core.Path.{_≡_, refl, sym, ap, _∙_}
-use mathlib.Core.Bool.{Bool, true, false, not, _&&_, and-false}
+use mathlib.Core.Path.{_≡_, refl, sym, _∙_}
+use mathlib.Core.Bool.{Bool, true, false, not, _&&_}
 use mathlib.Core.List.{List, [], _∷_}
-use lib.Dec.{eqb}
 use lib.ListN.{length, getD}
 use borrow.Author.Tests.{eq-eqb, ne-eqb, eqb-true, not-true, not-false}
-use Rattle.tally.specs.Tally.{all, count, span}
-use Rattle.rules.specs.Grid.{isBlack, lawful, lineSum, meets, keepsLine, keeps, Puzzle, target, puzzle}
+use Rattle.tally.specs.Tally.{all, span}
+use Rattle.rules.specs.Grid.{keepsLine, keeps, Puzzle, target, puzzle}
 use Rattle.rules.specs.Check.{refusal, checkBuffer, puzzleChecks, sheetChecks}
 use Rattle.rules.specs.Strided.{strided}
 use Rattle.rules.proofs.CheckLaws.{refusal-skip, refusal-stop, refusal-none, refusal-none-left, refusal-none-right}
 use Rattle.rules.proofs.SizeLaws.{size-in, size-fit}
 use Rattle.rules.proofs.StridedLaws.{all-each-line}
 use Rattle.puzzle.proofs.PuzzleLaws.{puzzle-numbered, accepted}
-use Rattle.target_sums.specs.declared.Scan.{Scan}
-use Rattle.target_sums.specs.Scanning.{Seen}
 use Rattle.target_sums.proofs.SumsLaws.{rows-within, columns-within}
 use Rattle.sheet_marking.specs.declared.Marked.the-variants.{Refused, Right, Wrong}
 use Rattle.sheet_marking.specs.Answer.{markSheet}
-use Rattle.sheet_marking.specs.Digits.{digitsOnce}
 use Rattle.sheet_marking.specs.Marking.{MarkLinesAsk, MarkSheetAsk}
 
 -- line i of those that start at 0, step, .. keeps its target
@@ -44,32 +40,6 @@ module _ (p : Puzzle) (g : List ℕ) (k : ℕ) (d : k ≡ refusal (puzzleChecks 
   pub sheet-0 : k ≡ 0 → length g ≡ p .size * p .size → 0 ≡ refusal (sheetChecks p g)
   unfolding refusal
   sheet-0 z l = sym (past z ∙ rw (eq-eqb (length g) (p .size * p .size) l))
-
--- ---- a line: the three tests, each by itself, and all of them
-
-pub not-once : (n t : ℕ) (l : List ℕ) (once : Bool) → once ≡ digitsOnce n l → not once ≡ true → false ≡ keepsLine n t l
-unfolding keepsLine lawful
-not-once n t l once d u = let e : digitsOnce n l ≡ false = sym d ∙ not-true once u in rw (e, and-false (eqb (count isBlack l) 2))
-
-module _ (n t : ℕ) (l : List ℕ) (s : Scan) (k : Seen s l) where
-  pub not-two : (s .blacks ≡ 2 → ⊥) → false ≡ keepsLine n t l
-  unfolding keepsLine lawful
-  not-two z = rw (ne-eqb (count isBlack l) 2 (λ e. z (k .blacks-are ∙ e)))
-
-  module _ (met : Bool) (e : met ≡ meets t (s .sum)) where
-    is-met : meets t (lineSum l) ≡ met
-    is-met = ap (meets t) (sym (k .sum-is)) ∙ sym e
-
-    pub not-met : not met ≡ true → false ≡ keepsLine n t l
-    unfolding keepsLine
-    not-met m = let f : meets t (lineSum l) ≡ false = is-met ∙ not-true met m in rw (f, and-false (lawful n l))
-
-    pub line-right : (once : Bool) → once ≡ digitsOnce n l → not once ≡ false → s .blacks ≡ 2 → not met ≡ false → true ≡ keepsLine n t l
-    unfolding keepsLine lawful
-    line-right once d u z m =
-        let o : digitsOnce n l ≡ true = sym d ∙ not-false once u in
-        let f : meets t (lineSum l) ≡ true = is-met ∙ not-false met m in
-        rw (eq-eqb (count isBlack l) 2 (sym (k .blacks-are) ∙ z), o, f)
 
 -- ---- the sheet
 

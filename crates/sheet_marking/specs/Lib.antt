@@ -1,3 +1,4 @@
 pub mod Answer
-pub mod Digits
+pub mod Counts
+pub mod Fault
 pub mod Marking

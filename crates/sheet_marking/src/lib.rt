@@ -1,19 +1,20 @@
 // Marking a sheet of cells against the targets of a puzzle: each of its lines has to keep the rules and its target.
 use puzzle::puzzle_refusal;
 use puzzle::wide;
-use target_sums::scan_line;
-use value::Value;
+use target_sums::line_sum;
 ghost use mathlib.Core.Path.{_≡_};
-ghost use Prim.Native.Nat.{_*_, min};
+ghost use Prim.Native.Nat.{_*_, _^_};
 ghost use lib.ListN.{length, getD};
 ghost use Rattle.tally.specs.Tally.{all, span};
-ghost use Rattle.rules.specs.Grid.{meets, keepsLine, keeps, puzzle};
+ghost use Rattle.rules.specs.Grid.{digitsOnce, twoBlacks, lineSum, meets, keepsLine, keeps, puzzle};
 ghost use Rattle.rules.specs.Check.{refusal, sheetChecks};
+ghost use Rattle.rules.specs.Size.{Size};
 ghost use Rattle.rules.specs.Strided.{strided};
 ghost use Rattle.target_sums.specs.Scanning.{LineAsk};
 ghost use Rattle.sheet_marking.specs.Answer.{markSheet};
-ghost use Rattle.sheet_marking.specs.Digits.{digitsOnce, CellCounted, MultiplicityOf};
-ghost use Rattle.sheet_marking.specs.Marking.{MarkLineAsk, MarkLinesAsk, MarkSheetAsk};
+ghost use Rattle.sheet_marking.specs.Counts.{bytePlace, CountsOf, CountsTell};
+ghost use Rattle.sheet_marking.specs.Fault.{lineFault, isNone};
+ghost use Rattle.sheet_marking.specs.Marking.{MarkLineAsk, LawfulAsk, MarkLinesAsk, MarkSheetAsk};
 
 pub enum Marked {
     Refused(u8),
@@ -21,81 +22,104 @@ pub enum Marked {
     Wrong,
 }
 
-// How often each byte stands in a line, bit d for the byte d: once or more, and twice or more. Bit 15 stands for all larger bytes.
-pub struct Multiplicity {
-    pub seen: u16,
-    pub twice: u16,
+// The fault of a line: the first step of its check that fails, in the sequence of the printed rules, or none.
+pub enum LineFault {
+    Digits,
+    Blacks,
+    Sum,
+    None,
 }
 
-fn bit_of(c: u8) -> usize
-    ensures { λ r. ⌜ r ≡ min c 15 ⌝ }
+// Where the count of a byte stands: a black at 0, an empty cell at 1, a digit behind these, all others at 9.
+fn byte_place(c: u8) -> usize
+    ensures { λ r. ⌜ r ≡ bytePlace c ⌝ }
 {
-    let v = wide(c);
-    if v < 15 { v } else { 15 }
+    let v = (wide(c) + 1) % 256;
+    if v < 9 { v } else { 9 }
 }
 
-// Without a branch on the cell: a walk takes as long for every line.
-fn count_cell(m: Multiplicity, c: u8) -> Multiplicity
-    ensures { λ r. ⌜ CellCounted m c r ⌝ }
+// A one in the four bits of that place.
+fn one_at(c: u8) -> u64
+    ensures { λ r. ⌜ r ≡ 2 ^ (4 * bytePlace c) ⌝ }
 {
-    let v = bit_of(c);
-    let b = 1u16 << v;
-    Multiplicity {
-        seen: m.seen | b,
-        twice: m.twice | (m.seen & b),
-    }
+    let p = byte_place(c);
+    1u64 << (4 * p)
 }
 
-fn walk_line(cells: &[u8], start: usize, stride: usize, n: usize) -> Multiplicity
+// How often each byte stands in a line, without a branch on the cell: it takes as long for every line.
+fn byte_counts(cells: &[u8], start: usize, stride: usize, n: usize) -> u64
     requires { ⌜ LineAsk start stride n (length (now cells)) ⌝ }
-    ensures { λ r. ⌜ MultiplicityOf r (strided start stride (now (cells .entry)) n) ⌝ }
+    ensures { λ r. ⌜ CountsOf r (strided start stride (now (cells .entry)) n) ⌝ }
 {
-    let mut m = Multiplicity { seen: 0, twice: 0 };
+    let mut m = 0;
     let mut j = 0;
     while j < n {
-        m = count_cell(m, cells[start + j * stride]);
+        m += one_at(cells[start + j * stride]);
         j += 1;
     }
     m
 }
 
-// Each digit of size n stands in the line once.
-fn digits_once(cells: &[u8], start: usize, stride: usize, n: usize) -> bool
-    requires { ⌜ MarkLineAsk start stride n (length (now cells)) ⌝ }
-    ensures { λ r. ⌜ r ≡ digitsOnce n (strided start stride (now (cells .entry)) n) ⌝ }
+// Step 1: each digit of size n stands in the line once: behind the counts of blacks and empty cells, n - 2 counts are 1.
+fn digits_once(m: u64, n: usize) -> bool
+    requires { ⌜ Size n ⌝ }
+    ensures { λ r. ⌜ CountsTell m (digitsOnce n) r ⌝ }
 {
-    let m = walk_line(cells, start, stride, n);
-    let all = Value::all_digits(n);
-    if m.seen & all != all {
-        return false;
-    }
-    m.twice & all == 0
+    let p = 1u64 << (4 * (n - 2));
+    m / 256 % p == 0x1111111 % p
+}
+
+// Step 2: two cells of the line are black.
+fn two_blacks(m: u64) -> bool
+    ensures { λ r. ⌜ CountsTell m twoBlacks r ⌝ }
+{
+    m % 16 == 2
 }
 
 // A target is met by a sum.
-fn meets_target(t: u8, s: usize) -> bool
+fn meets_target(t: u8, s: u8) -> bool
     ensures { λ r. ⌜ r ≡ meets t s ⌝ }
 {
-    let w = wide(t);
-    w == s
+    t == s
 }
 
-// The line keeps its target: each digit once, two blacks, and the sum.
-fn line_keeps(cells: &[u8], start: usize, stride: usize, n: usize, t: u8) -> bool
-    requires { ⌜ MarkLineAsk start stride n (length (now cells)) ⌝ }
-    ensures { λ r. ⌜ r ≡ keepsLine n t (strided start stride (now (cells .entry)) n) ⌝ }
+// Step 3: the sum between the blacks meets the target. It is asked of lawful lines only, so that a byte holds it.
+fn sum_meets(cells: &[u8], start: usize, stride: usize, n: usize, t: u8) -> bool
+    requires { ⌜ LawfulAsk start stride n (now cells) ⌝ }
+    ensures { λ r. ⌜ r ≡ meets t (lineSum (strided start stride (now (cells .entry)) n)) ⌝ }
 {
-    if !digits_once(cells, start, stride, n) {
-        return false;
+    let s = line_sum(cells, start, stride, n);
+    meets_target(t, s)
+}
+
+// The check of a line: the three steps, one after the other.
+pub fn line_fault(cells: &[u8], start: usize, stride: usize, n: usize, t: u8) -> LineFault
+    requires { ⌜ MarkLineAsk start stride n (length (now cells)) ⌝ }
+    ensures { λ r. ⌜ r ≡ lineFault n t (strided start stride (now (cells .entry)) n) ⌝ }
+{
+    let m = byte_counts(cells, start, stride, n);
+    if !digits_once(m, n) {
+        return LineFault::Digits;
     }
-    let s = scan_line(cells, start, stride, n);
-    if s.blacks != 2 {
-        return false;
+    if !two_blacks(m) {
+        return LineFault::Blacks;
     }
-    if !meets_target(t, s.sum) {
-        return false;
+    if !sum_meets(cells, start, stride, n, t) {
+        return LineFault::Sum;
     }
-    true
+    LineFault::None
+}
+
+// No step failed.
+fn is_none(fault: LineFault) -> bool
+    ensures { λ r. ⌜ r ≡ isNone fault ⌝ }
+{
+    match fault {
+        LineFault::None => true,
+        LineFault::Digits => false,
+        LineFault::Blacks => false,
+        LineFault::Sum => false,
+    }
 }
 
 // Each of n lines, which start at 0, step, 2 step, .., keeps its target.
@@ -105,7 +129,7 @@ fn lines_keep(cells: &[u8], step: usize, stride: usize, n: usize, targets: &[u8]
 {
     let mut i = 0;
     while i < n {
-        if !line_keeps(cells, i * step, stride, n, targets[i]) {
+        if !is_none(line_fault(cells, i * step, stride, n, targets[i])) {
             return false;
         }
         i += 1;

@@ -54,7 +54,7 @@ fn add_cell(s: Scan, c: u8) -> Scan
     }
 }
 
-pub fn scan_line(cells: &[u8], start: usize, stride: usize, n: usize) -> Scan
+fn scan_line(cells: &[u8], start: usize, stride: usize, n: usize) -> Scan
     requires { ⌜ LineAsk start stride n (length (now cells)) ⌝ }
     ensures { λ r. ⌜ Seen r (strided start stride (now (cells .entry)) n) ⌝ }
 {

@@ -1,11 +1,11 @@
-use crate::{BLACK, Mark, line_sum};
+use crate::{BLACK, Mark, line_fault};
 
 /// Whether these cells satisfy the rules, the targets and every mark.
 pub fn satisfies(size: usize, rows: &[u8], columns: &[u8], marks: &[u16], cells: &[u8]) -> bool {
     let row = |r: usize| cells[r * size..][..size].to_vec();
     let column = |c: usize| (0..size).map(|r| cells[r * size + c]).collect::<Vec<u8>>();
-    (0..size).all(|r| line_satisfies(&row(r), rows[r]))
-        && (0..size).all(|c| line_satisfies(&column(c), columns[c]))
+    (0..size).all(|r| line_fault(&row(r), rows[r]).is_none())
+        && (0..size).all(|c| line_fault(&column(c), columns[c]).is_none())
         && marks.iter().all(|&mark| keeps_mark(size, cells, mark))
 }
 
@@ -16,13 +16,6 @@ pub fn keeps_mark(size: usize, cells: &[u8], mark: u16) -> bool {
     let row = &cells[mark.row * size..][..size];
     let column: Vec<u8> = (0..size).map(|r| cells[r * size + mark.column]).collect();
     has_value(mark, row, &column) != mark.rejected
-}
-
-/// Each digit once, two blacks, and the target between them.
-fn line_satisfies(line: &[u8], target: u8) -> bool {
-    let times = |value: u8| line.iter().filter(|&&cell| cell == value).count();
-    let digits = line.len() as u8 - 2;
-    (1..=digits).all(|digit| times(digit) == 1) && times(BLACK) == 2 && line_sum(line) == Ok(target)
 }
 
 /// Whether the cell of `mark` has its value, given the cell's two lines.

@@ -4,6 +4,7 @@
 //! A refusal is its number. Where a call refuses, it writes nothing.
 
 mod every;
+mod fault;
 mod grids;
 mod line;
 mod marking;
@@ -13,6 +14,7 @@ mod sums;
 mod table;
 
 pub use every::{LISTED, every_grid};
+pub use fault::{LineFault, line_fault};
 pub use grids::{keeps_mark, satisfies, ways};
 pub use line::{LinePuzzle, line_puzzle};
 pub use marking::mark_sheet;
