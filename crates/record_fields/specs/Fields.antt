@@ -37,7 +37,7 @@ numberFrom v (b ∷ bs) = numberFrom (v * 256 + b) bs
 
 -- How many fields a record with this tag has; 0 for a tag that no call has.
 unfoldable pub fieldCount : ℕ → ℕ
-fieldCount t = cond (eqb t 1) 7 (cond (eqb t 2) 5 (cond (eqb t 3) 7 (cond (eqb t 4) 8 (cond (eqb t 5) 7 0))))
+fieldCount t = cond (eqb t 1) 7 (cond (eqb t 2) 5 (cond (eqb t 3) 7 (cond (eqb t 4) 8 (cond (eqb t 5) 7 (cond (eqb t 6) 4 0)))))
 
 -- How many bytes the record takes.
 abbrev pub recordLength : List ℕ → ℕ

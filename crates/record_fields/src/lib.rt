@@ -37,6 +37,9 @@ pub fn field_count(tag: usize) -> usize
     if tag == 5 {
         return 7;
     }
+    if tag == 6 {
+        return 4;
+    }
     0
 }
 

@@ -44,6 +44,7 @@ fn print_report(list: &[u8]) {
     print_call(b"candidates: ", list, 3);
     print_call(b"count: ", list, 4);
     print_call(b"solve: ", list, 5);
+    print_call(b"check of a line: ", list, 6);
     let all = replay_records::replay_list(list, 0, 255);
     print_tally(b"", all, b" answers, ");
     if 0 < all.differ {

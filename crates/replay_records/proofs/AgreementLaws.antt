@@ -1,18 +1,26 @@
--- Laws of records of target sums and of marked sheets. Assumes nothing.
+-- Laws of records of target sums, of marked sheets and of checked lines. Assumes nothing.
 use Prim.Native.Nat.{ℕ, _≤_, _<_}
 use native.Mathlib.Omega.{arith}
-use mathlib.Core.Path.{_≡_, ap}
-use mathlib.Core.Bool.{Bool, false}
+use mathlib.Core.Path.{_≡_, sym, ap, _∙_}
+use mathlib.Core.Bool.{Bool, true, false, not, false≢true}
 use mathlib.Core.List.{List, [], _∷_}
-use lib.ListN.{length, take}
+use lib.ListN.{length, getD, take}
+use borrow.Author.Tests.{not-true, not-false}
 use Rattle.rules.specs.Sums.{targetSums}
+use Rattle.rules.specs.CheckParts.{sizeFits}
 use Rattle.rules.specs.Grid.{puzzle}
+use Rattle.rules.specs.Strided.{strided}
+use Rattle.rules.proofs.SizeLaws.{size-in}
+use Rattle.rules.proofs.StridedLaws.{strided-whole}
+use Rattle.sheet_marking.specs.declared.LineFault.{LineFault}
 use Rattle.sheet_marking.specs.Answer.{markSheet}
+use Rattle.sheet_marking.specs.Fault.{lineFault}
+use Rattle.sheet_marking.specs.Marking.{MarkLineAsk}
 use Rattle.doppelblock.specs.Number.{sheetNumber}
 use Rattle.record_fields.specs.Fields.{field, recordSize}
 use Rattle.record_fields.specs.Recorded.{Says, SumsRecorded}
 use Rattle.record_fields.proofs.RecordedLaws.{says-no, says-also}
-use Rattle.replay_records.specs.Agreement.{SumsFrom, SumsAgree, SheetAgrees}
+use Rattle.replay_records.specs.Agreement.{SumsFrom, SumsAgree, SheetAgrees, stepNumber, LineAgrees}
 
 module _ (xs : List ℕ) where
   -- The target sums were called on the record's size and cells.
@@ -47,3 +55,31 @@ module _ (xs : List ℕ) where
       (size number : ℕ) (rows columns cells : List ℕ) (b : Bool) → size ≡ recordSize xs → rows ≡ field xs 1 → columns ≡ field xs 2
       → cells ≡ field xs 3 → number ≡ sheetNumber (markSheet (puzzle size rows columns) cells) → Says b (field xs 4 ≡ number ∷ []) → Says b (SheetAgrees xs)
   sheet-called size number rows columns cells b s r c e n h = rw (n, s, r, c, e) at h
+
+  -- The check of a line was called on the record's size, target and cells.
+  module _ (n : ℕ) (is-n : n ≡ recordSize xs) (fits : Bool) (is-fits : fits ≡ sizeFits n) where
+    pub line-size : not fits ≡ true → Says false (LineAgrees xs)
+    line-size h = says-no (λ s. false≢true (sym (sym is-fits ∙ not-true fits h) ∙ rw (← is-n) at (s .size-fits)))
+
+    module _ (h : not fits ≡ false) (cells : List ℕ) (is-cells : cells ≡ field xs 2) where
+      pub line-short : (length cells ≡ n → ⊥) → Says false (LineAgrees xs)
+      line-short z = says-no (λ s. z (ap length is-cells ∙ s .cells-fit ∙ sym is-n))
+
+      module _ (long : length cells ≡ n) where
+        pub line-ask : MarkLineAsk 0 1 n (length cells)
+        line-ask =
+            let z = size-in n (sym is-fits ∙ not-false fits h) in
+            record { size = z; within = record { short = z .high; reach = λ j k. omega arith } }
+
+        pub line-called :
+            (first : List ℕ) (target t : ℕ) (fault : LineFault) (number : ℕ) (b : Bool) → first ≡ field xs 1 → target ≡ getD first 0 0 → t ≡ target
+            → fault ≡ lineFault n t (strided 0 1 cells n) → number ≡ stepNumber fault → Says b (field xs 3 ≡ number ∷ []) → Says b (LineAgrees xs)
+        line-called first target t fault number b is-first is-target is-t is-fault is-number s =
+            let e : number ≡ stepNumber (lineFault (recordSize xs) (getD (field xs 1) 0 0) (field xs 2)) = cc (strided-whole cells n long) in
+            says-also s
+            (λ q. record {
+              size-fits = rw is-n at (sym is-fits ∙ not-false fits h);
+              cells-fit = sym (ap length is-cells) ∙ long ∙ is-n;
+              step-is = q ∙ ap (λ k. k ∷ []) e;
+            })
+            (λ p. p .step-is ∙ ap (λ k. k ∷ []) (sym e))

@@ -14,7 +14,7 @@ use Rattle.replay_records.specs.declared.Tally.{Tally}
 use Rattle.record_fields.specs.Fields.{tag, fieldCount, fieldStart, recordLength, readable}
 use Rattle.record_fields.proofs.FieldLaws.{start-positive, readable-within}
 use Rattle.record_fields.specs.Recorded.{Says}
-use Rattle.replay_records.specs.Agreement.{SumsAgree, SheetAgrees}
+use Rattle.replay_records.specs.Agreement.{SumsAgree, SheetAgrees, LineAgrees}
 use Rattle.replay_records.specs.SolverAgreement.{TableFound, CountAgrees, CellsFound}
 use Rattle.replay_records.specs.Replay.{kind, step, FindsAs, Finds, RecordTested, Replayed, inKinds, asNumber, RecordAdded, RecordsTallied, none, more, FirstDifference, at-end, here, later}
 
@@ -46,13 +46,18 @@ module _ (xs : List ℕ) (t : ℕ) (is-tag : t ≡ tag xs) where
           unfolding FindsAs
           finds-count e s = rw (isnt 1 n₁, isnt 2 n₂, isnt 3 n₃, is 4 e) s
 
-          pub finds-cells : (t ≡ 4 → ⊥) → t ≡ 5 → CellsFound b xs → Finds b xs
-          unfolding FindsAs
-          finds-cells n₄ e s = rw (isnt 1 n₁, isnt 2 n₂, isnt 3 n₃, isnt 4 n₄, is 5 e) s
+          module _ (n₄ : t ≡ 4 → ⊥) where
+            pub finds-cells : t ≡ 5 → CellsFound b xs → Finds b xs
+            unfolding FindsAs
+            finds-cells e s = rw (isnt 1 n₁, isnt 2 n₂, isnt 3 n₃, isnt 4 n₄, is 5 e) s
 
-  pub finds-none : (t ≡ 1 → ⊥) → (t ≡ 2 → ⊥) → (t ≡ 3 → ⊥) → (t ≡ 4 → ⊥) → (t ≡ 5 → ⊥) → Finds false xs
+            pub finds-line : (t ≡ 5 → ⊥) → t ≡ 6 → Says b (LineAgrees xs) → Finds b xs
+            unfolding FindsAs
+            finds-line n₅ e s = rw (isnt 1 n₁, isnt 2 n₂, isnt 3 n₃, isnt 4 n₄, isnt 5 n₅, is 6 e) s
+
+  pub finds-none : (t ≡ 1 → ⊥) → (t ≡ 2 → ⊥) → (t ≡ 3 → ⊥) → (t ≡ 4 → ⊥) → (t ≡ 5 → ⊥) → (t ≡ 6 → ⊥) → Finds false xs
   unfolding FindsAs
-  finds-none n₁ n₂ n₃ n₄ n₅ = rw (isnt 1 n₁, isnt 2 n₂, isnt 3 n₃, isnt 4 n₄, isnt 5 n₅) refl
+  finds-none n₁ n₂ n₃ n₄ n₅ n₆ = rw (isnt 1 n₁, isnt 2 n₂, isnt 3 n₃, isnt 4 n₄, isnt 5 n₅, isnt 6 n₆) refl
 
 -- Nothing can be read.
 pub replayed-none :

@@ -9,7 +9,7 @@ use Rattle.replay_records.specs.declared.Outcome.{Outcome}
 use Rattle.replay_records.specs.declared.Tally.{Tally}
 use Rattle.record_fields.specs.Fields.{tag, readable, recordLength}
 use Rattle.record_fields.specs.Recorded.{Says}
-use Rattle.replay_records.specs.Agreement.{SumsAgree, SheetAgrees}
+use Rattle.replay_records.specs.Agreement.{SumsAgree, SheetAgrees, LineAgrees}
 use Rattle.replay_records.specs.SolverAgreement.{TableFound, CountAgrees, CellsFound}
 
 -- The tag of the first record, or 0 where none can be read.
@@ -28,7 +28,8 @@ FindsAs t r xs =
     (cond (eqb t 3) (TableFound r xs)
     (cond (eqb t 4) (Says r (CountAgrees xs))
     (cond (eqb t 5) (CellsFound r xs)
-    (r ≡ false)))))
+    (cond (eqb t 6) (Says r (LineAgrees xs))
+    (r ≡ false))))))
 
 -- By its own kind.
 abbrev pub Finds : Bool → List ℕ → Type 0

@@ -1,12 +1,17 @@
-// Target sums and marking, run on the fields of a record.
+// Target sums, marking and the check of a line, run on the fields of a record.
+use puzzle::size_fits;
 use record_fields::ROOM;
 use record_fields::buffer;
+use record_fields::byte;
 use record_fields::field;
 use record_fields::is_number;
 use record_fields::size;
 use record_fields::sums_recorded;
+use sheet_marking::LineFault;
+use sheet_marking::line_fault;
+ghost use mathlib.Core.Path.{_≡_};
 ghost use Rattle.record_fields.specs.Recorded.{Says};
-ghost use Rattle.replay_records.specs.Agreement.{SumsFrom, SumsAgree, SheetAgrees};
+ghost use Rattle.replay_records.specs.Agreement.{SumsFrom, SumsAgree, SheetAgrees, stepNumber, LineAgrees};
 
 // Whether the target sums, with the two slices to begin with, come out as recorded.
 fn sums_agree(list: &[u8], rows: &mut [u8], columns: &mut [u8]) -> bool
@@ -46,4 +51,33 @@ pub(crate) fn mark_sheet_agrees(list: &[u8]) -> bool
         field(list, 3),
     );
     is_number(list, 4, number)
+}
+
+// The number of the step that a line fails first, 0 for none.
+fn step_number(fault: LineFault) -> u8
+    ensures { λ r. ⌜ r ≡ stepNumber fault ⌝ }
+{
+    match fault {
+        LineFault::None => 0,
+        LineFault::Digits => 1,
+        LineFault::Blacks => 2,
+        LineFault::Sum => 3,
+    }
+}
+
+// Fields: size, target, cells, answer. The call asks for a size and as many cells.
+pub(crate) fn line_check_agrees(list: &[u8]) -> bool
+    ensures { λ r. ⌜ Says r (LineAgrees (now (list .entry))) ⌝ }
+{
+    let n = size(list);
+    if !size_fits(n) {
+        return false;
+    }
+    let cells = field(list, 2);
+    if cells.len() != n {
+        return false;
+    }
+    let target = byte(field(list, 1), 0);
+    let fault = line_fault(cells, 0, 1, n, target as u8);
+    is_number(list, 3, step_number(fault))
 }

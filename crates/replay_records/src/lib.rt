@@ -3,6 +3,7 @@
 mod calls;
 mod solver_calls;
 
+use calls::line_check_agrees;
 use calls::mark_sheet_agrees;
 use calls::target_sums_agree;
 use record_fields::byte;
@@ -47,6 +48,9 @@ fn agrees(list: &[u8]) -> bool
     }
     if tag == 5 {
         return solve_agrees(list);
+    }
+    if tag == 6 {
+        return line_check_agrees(list);
     }
     false
 }

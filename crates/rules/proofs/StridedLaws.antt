@@ -1,11 +1,12 @@
 -- A line read by its start and its stride, so that rows and columns are one case. Assumes nothing.
 use Prim.Native.Nat.{ℕ, zero, suc, _+_, _*_, _<_}
-use mathlib.Core.Path.{_≡_, ap, _∙_}
+use mathlib.Core.Path.{_≡_, sym, ap, _∙_}
 use mathlib.Core.Bool.{Bool, _&&_}
 use mathlib.Core.List.{List, [], _∷_, _++_, map, map-append, map-map}
 use native.Mathlib.Omega.{arith}
 use native.Mathlib.Nat.{add-comm, mul-one, add-zero}
 use lib.ListN.{length, getD, length-map}
+use lib.Seq.{ext-getD}
 use Rattle.tally.specs.Tally.{span, all, join}
 use Rattle.tally.proofs.TallyLaws.{span-length, map-at}
 use Rattle.rules.specs.Grid.{Line, across, down, line, lines, cell, row, column}
@@ -36,6 +37,11 @@ strided-length start stride g k = length-map (span 0 k) (λ j. getD g (start + j
 pub strided-at : (start stride : ℕ) (g : List ℕ) (k j : ℕ) → j < k → getD (strided start stride g k) j 0 ≡ getD g (start + j * stride) 0
 unfolding strided
 strided-at start stride g k j h = let z : 0 + j ≡ j = omega arith in rw z at (map-at (λ j. getD g (start + j * stride) 0) 0 k j h)
+
+pub strided-whole : (g : List ℕ) (n : ℕ) → length g ≡ n → strided 0 1 g n ≡ g
+strided-whole g n e =
+    ext-getD 0 (strided 0 1 g n) g (strided-length 0 1 g n ∙ sym e)
+    (λ i h. let z : 0 + i * 1 ≡ i = omega arith in rw z at (strided-at 0 1 g n i (omega (arith, strided-length 0 1 g n))))
 
 pub row-strided : (n : ℕ) (g : List ℕ) (r : ℕ) → row n g r ≡ strided (r * n) 1 g n
 unfolding row cell strided

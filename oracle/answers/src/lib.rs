@@ -2,10 +2,12 @@
 //! form of the records.
 //!
 //! Every answer comes from the published Rust. The rules give the refusals that
-//! the Rust does not have, and decide where docs/DIFFERENCES.md lets them differ.
+//! the Rust does not have, and the check of a line, and decide where
+//! docs/DIFFERENCES.md lets them differ.
 
 mod candidates;
 mod count;
+mod line_check;
 mod marking;
 mod record;
 mod searching;
@@ -22,16 +24,18 @@ pub enum Call {
     Candidates,
     Count,
     Solve,
+    LineCheck,
 }
 
 impl Call {
     /// In the order of their tags.
-    pub const ALL: [Call; 5] = [
+    pub const ALL: [Call; 6] = [
         Call::TargetSums,
         Call::MarkSheet,
         Call::Candidates,
         Call::Count,
         Call::Solve,
+        Call::LineCheck,
     ];
 
     /// The word that chooses this call on the command line.
@@ -42,6 +46,7 @@ impl Call {
             "candidates" => Some(Call::Candidates),
             "count" => Some(Call::Count),
             "solve" => Some(Call::Solve),
+            "lines" => Some(Call::LineCheck),
             _ => None,
         }
     }
@@ -54,6 +59,7 @@ impl Call {
             Call::Candidates => 3,
             Call::Count => 4,
             Call::Solve => 5,
+            Call::LineCheck => 6,
         }
     }
 
@@ -63,6 +69,7 @@ impl Call {
             Call::TargetSums | Call::Candidates | Call::Solve => 7,
             Call::MarkSheet => 5,
             Call::Count => 8,
+            Call::LineCheck => 4,
         }
     }
 
@@ -74,6 +81,7 @@ impl Call {
             Call::Candidates => candidates::records(),
             Call::Count => count::records(),
             Call::Solve => solve::records(),
+            Call::LineCheck => line_check::records(),
         }
     }
 }

@@ -6,7 +6,7 @@ use std::{env, fs};
 
 use answers::Call;
 
-const USAGE: &str = "usage: answers FILE [sums] [marking] [candidates] [count] [solve]";
+const USAGE: &str = "usage: answers FILE [sums] [marking] [candidates] [count] [solve] [lines]";
 
 fn main() -> ExitCode {
     let mut words = env::args().skip(1);

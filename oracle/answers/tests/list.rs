@@ -96,6 +96,20 @@ fn marking_has_every_answer() {
     }
 }
 
+#[test]
+fn lines_have_every_answer_of_every_size() {
+    let list = list(Call::LineCheck);
+    let times = answers(&fields(Call::LineCheck, &list), 3);
+    for size in 2..=9 {
+        for step in 0..=3 {
+            // Size 2 has no digits.
+            let never = size == 2 && step == 1;
+            let is_there = times.contains_key(&(size, step));
+            assert_eq!(is_there, !never, "{size}: {step}");
+        }
+    }
+}
+
 /// Each call with the place of its answer among the fields.
 #[test]
 fn searching_calls_have_every_answer_of_every_size() {

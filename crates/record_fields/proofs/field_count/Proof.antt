@@ -27,7 +27,12 @@ returns-5 c = (simp (ne-eqb _ _ (c .before .before .before .before .if1 .left), 
 
 returns-6 : tie.Need-returns-6
 unfolding fieldCount
-returns-6 c = (simp (ne-eqb _ _ (c .before .before .before .before .if1 .left), ne-eqb _ _ (c .before .before .before .if2 .left), ne-eqb _ _ (c .before .before .if3 .left), ne-eqb _ _ (c .before .if4 .left), ne-eqb _ _ (c .if5 .left)), search needs)
+returns-6 c = (simp (ne-eqb _ _ (c .before .before .before .before .before .if1 .left), ne-eqb _ _ (c .before .before .before .before .if2 .left), ne-eqb _ _ (c .before .before .before .if3 .left), ne-eqb _ _ (c .before .before .if4 .left), ne-eqb _ _ (c .before .if5 .left), eq-eqb _ _ (c .if6 .taken)), search needs)
+
+returns-7 : tie.Need-returns-7
+unfolding fieldCount
+returns-7 c = (simp (ne-eqb _ _ (c .before .before .before .before .before .if1 .left), ne-eqb _ _ (c .before .before .before .before .if2 .left), ne-eqb _ _ (c .before .before .before .if3 .left), ne-eqb _ _ (c .before .before .if4 .left), ne-eqb _ _ (c .before .if5 .left), ne-eqb _ _ (c .if6 .left)), search needs)
 
 pub field-count-spec : {M : Type 1} → statement M
-field-count-spec = tie.close (tie.spec returns returns-2 returns-3 returns-4 returns-5 returns-6)
+field-count-spec =
+    tie.close (tie.spec returns returns-2 returns-3 returns-4 returns-5 returns-6 returns-7)

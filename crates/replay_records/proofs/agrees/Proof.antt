@@ -1,6 +1,6 @@
 -- `replay_records::agrees` meets its contract. Assumes nothing.
 use borrow.Author.Needs.{needs}
-use Rattle.replay_records.proofs.ReplayLaws.{finds-sums, finds-sheet, finds-table, finds-count, finds-cells, finds-none}
+use Rattle.replay_records.proofs.ReplayLaws.{finds-sums, finds-sheet, finds-table, finds-count, finds-cells, finds-line, finds-none}
 use Rattle.replay_records.proofs.agrees.Statement.{statement}
 use Rattle.replay_records.proofs.agrees.Tie as tie
 
@@ -37,8 +37,14 @@ solve-agrees-requires c κs = search needs
 returns-5 : tie.Need-returns-5
 returns-5 c = search (needs, finds-cells)
 
+line-check-agrees-requires : tie.Need-line-check-agrees-requires
+line-check-agrees-requires c κs = search needs
+
 returns-6 : tie.Need-returns-6
-returns-6 c = search (needs, finds-none)
+returns-6 c = search (needs, finds-line)
+
+returns-7 : tie.Need-returns-7
+returns-7 c = search (needs, finds-none)
 
 pub agrees-spec : {M : Type 1} → statement M
 agrees-spec =
@@ -55,4 +61,6 @@ agrees-spec =
     returns-4
     solve-agrees-requires
     returns-5
-    returns-6)
+    line-check-agrees-requires
+    returns-6
+    returns-7)
