@@ -11,12 +11,12 @@ use lib.ListN.{length}
 use borrow.Author.Tests.{lt-ltb, le-leb}
 use Rattle.tally.specs.Tally.{any}
 use Rattle.tally.proofs.TallyLaws.{and-left, and-right, and-both, false-of}
+use Rattle.units.specs.declared.Unit.{Unit}
 use Rattle.rules.specs.Grid.{Puzzle, across, down, keeps}
 use Rattle.rules.specs.Mark.{rejects, markRow, markColumn, markValue}
 use Rattle.rules.proofs.GridLaws.{solution-way}
 use Rattle.rules.specs.Check.{refusal, solveChecks}
 use Rattle.rules.specs.Number.{solves, number, Solution}
-use Rattle.puzzle.proofs.PuzzleLaws.{accepted}
 use Rattle.table.specs.Table.{Table, firstBlack, everyValue, fits, tableOf, inRow, inColumn, sameHalf}
 use Rattle.table.specs.Steps.{markedAll}
 use Rattle.table.specs.Closed.{Closed}
@@ -41,8 +41,8 @@ use Rattle.written.specs.Published.{PublishedTable}
 use Rattle.written.proofs.MaskLaws.{published-table}
 use Rattle.prepare.specs.Prepared.{Marked}
 use Rattle.engine.specs.Answer.{SolveAsk}
-use Rattle.engine.proofs.CountLaws.{count-marks, count-left}
-use Rattle.engine.proofs.SolveLaws.{solve-count, solve-room, solve-small}
+use Rattle.engine.proofs.CountLaws.{count-left}
+use Rattle.engine.proofs.SolveLaws.{solve-small}
 use Rattle.candidates.specs.declared.Outcome.the-variants.{Refused, Contradicted, Written}
 use Rattle.candidates.specs.Remaining.{Remaining, WrittenTable, TableGiven, Tabled}
 use Rattle.candidates.proofs.SameClosed.{closed-same}
@@ -122,7 +122,7 @@ module _ (p : Puzzle) (t : Table) (small : p .size ≤ 9) (closed : Closed p t) 
 
 module _ {p : Puzzle} {ms : List ℕ} {len : ℕ} (a : SolveAsk p ms len) where
   mark-in : (m : ℕ) → List·Memᴰ m ms → AcceptedMark (p .size) m
-  mark-in = marks.accepted (p .size) ms (count-marks (solve-count a))
+  mark-in = marks.accepted (p .size) ms (a .count .marks)
 
   module _ {ws l : List ℕ} (m : Marked p ms ws l) where
     -- the state's table is the whole one after the marks
@@ -139,7 +139,7 @@ module _ {p : Puzzle} {ms : List ℕ} {len : ℕ} (a : SolveAsk p ms len) where
     pub left-none : {l′ : List ℕ} {b : Bool} → Propagated (p .size) l l′ b → b ≡ false → number p ms ≡ 0
     left-none d e =
         let x = d .emptied e in
-        sym (count-left (solve-count a) m) ∙ same-left (d .sound p refl (m .kept)) ∙ empty-left p _ (solve-small a) (x .row) (x .column) (x .row-in) (x .column-in) (x .empty)
+        sym (count-left (a .count) m) ∙ same-left (d .sound p refl (m .kept)) ∙ empty-left p _ (solve-small a) (x .row) (x .column) (x .row-in) (x .column-in) (x .empty)
 
     module _ {l′ table : List ℕ} (d : Propagated (p .size) l l′ true) (w : PublishedTable (p .size) l′ table) where
       t : Table
@@ -199,7 +199,7 @@ module _ {p : Puzzle} {ms : List ℕ} {len : ℕ} (a : SolveAsk p ms len) where
       unfolding t
       written-table e =
           record {
-            size = e ∙ solve-room a;
+            size = e ∙ a .room;
             remaining = remaining;
             plain = λ r c b hr hc q. let u = w .plain r c hr hc b q in (u .0, value-every (p .size) (u .0) (solve-small a) (u .1), u .2);
           }
@@ -212,12 +212,12 @@ tabled-none z = record { done = λ e. absurd (true≢false (sym e)); none = λ _
 pub tabled-done : {p : Puzzle} {ms table table′ : List ℕ} → WrittenTable p ms table′ → Tabled p ms true table table′
 tabled-done w = record { done = λ _. w; none = λ e. absurd (true≢false e) }
 
-pub table-refused : {p : Puzzle} {ms table : List ℕ} {k : ℕ} → k ≡ refusal (solveChecks p ms (length table)) → (k ≡ 0 → ⊥) → TableGiven p ms (Refused k) table table
+pub table-refused : {u : Unit} {p : Puzzle} {ms table : List ℕ} {k : ℕ} → k ≡ refusal (solveChecks u p ms (length table)) → (k ≡ 0 → ⊥) → TableGiven u p ms (Refused k) table table
 table-refused d z = record { refused = λ _. (ap Refused d, refl); answered = λ e. absurd (z (d ∙ e)) }
 
-module _ {p : Puzzle} {ms table table′ : List ℕ} {k : ℕ} {b : Bool} (d : k ≡ refusal (solveChecks p ms (length table))) (z : k ≡ 0) (t : Tabled p ms b table table′) where
-  pub table-written : b ≡ true → TableGiven p ms Written table table′
+module _ {u : Unit} {p : Puzzle} {ms table table′ : List ℕ} {k : ℕ} {b : Bool} (d : k ≡ refusal (solveChecks u p ms (length table))) (z : k ≡ 0) (t : Tabled p ms b table table′) where
+  pub table-written : b ≡ true → TableGiven u p ms Written table table′
   table-written e = record { refused = λ x. absurd (x (sym d ∙ z)); answered = λ _. inl (refl, t .done e) }
 
-  pub table-none : b ≡ false → TableGiven p ms Contradicted table table′
+  pub table-none : b ≡ false → TableGiven u p ms Contradicted table table′
   table-none e = record { refused = λ x. absurd (x (sym d ∙ z)); answered = λ _. let u = t .none e in inr (refl, u .0, u .1) }

@@ -7,6 +7,7 @@ use mathlib.Core.Logic.{_≢_, _⊎_}
 use mathlib.Core.List.{List, List·Memᴰ}
 use lib.ListN.{length}
 use Rattle.tally.specs.Tally.{any}
+use Rattle.units.specs.declared.Unit.{Unit}
 use Rattle.rules.specs.Grid.{Line, Puzzle, cell}
 use Rattle.rules.specs.Mark.{rejects, markRow, markColumn, markValue}
 use Rattle.rules.specs.Check.{refusal, solveChecks}
@@ -38,10 +39,10 @@ pub record WrittenTable (p : Puzzle) (ms masks : List ℕ) : Type 0 where
   pub plain : (r c b : ℕ) → r < p .size → c < p .size → hasBit (cell (p .size) masks r c) b ≡ true →
       (v : ℕ) × List·Memᴰ v (everyValue (p .size)) × (bitOf (p .size) v ≡ b)
 
--- The answer and the buffer afterwards. On a refusal and on a contradiction the buffer is as it was; there is a contradiction only where no grid is left.
-pub record TableGiven (p : Puzzle) (ms : List ℕ) (answer : Outcome) (table table′ : List ℕ) : Type 0 where
-  pub refused : (refusal (solveChecks p ms (length table)) ≡ 0 → ⊥) → (answer ≡ Refused (refusal (solveChecks p ms (length table)))) × (table′ ≡ table)
-  pub answered : refusal (solveChecks p ms (length table)) ≡ 0 →
+-- The answer in a unit and the buffer afterwards. On a refusal and on a contradiction the buffer is as it was; there is a contradiction only where no grid is left.
+pub record TableGiven (u : Unit) (p : Puzzle) (ms : List ℕ) (answer : Outcome) (table table′ : List ℕ) : Type 0 where
+  pub refused : (refusal (solveChecks u p ms (length table)) ≡ 0 → ⊥) → (answer ≡ Refused (refusal (solveChecks u p ms (length table)))) × (table′ ≡ table)
+  pub answered : refusal (solveChecks u p ms (length table)) ≡ 0 →
       ((answer ≡ Written) × WrittenTable p ms table′) ⊎ ((answer ≡ Contradicted) × (number p ms ≡ 0) × (table′ ≡ table))
 
 -- Whether the table is written; if not, no grid is left.

@@ -3,6 +3,7 @@ use engine::solve_refusal;
 use prepare::prepare;
 use propagate::propagate;
 use slab::Slab;
+use units::Unit;
 use written::write_candidates;
 ghost use lib.ListN.{length};
 ghost use Rattle.rules.specs.Mark.{marksOf};
@@ -37,16 +38,17 @@ fn write_table(n: usize, rows: &[u8], columns: &[u8], marks: &[u8], table: &mut 
 
 // The candidates that are left of a puzzle and marks, n * n masks row by row, unless a cell is left with none.
 pub fn candidates(
+    unit: Unit,
     size: usize,
     rows: &[u8],
     columns: &[u8],
     marks: &[u8],
     table: &mut [u16],
 ) -> Outcome
-    ensures { λ r. ⌜ TableGiven (puzzle size (now (rows .entry)) (now (columns .entry))) (marksOf (now (marks .entry)))
+    ensures { λ r. ⌜ TableGiven unit (puzzle size (now (rows .entry)) (now (columns .entry))) (marksOf (now (marks .entry)))
         r (now (table .entry)) (now (table .exit)) ⌝ }
 {
-    let k = solve_refusal(size, rows, columns, marks, table.len());
+    let k = solve_refusal(unit, size, rows, columns, marks, table.len());
     if k != 0 {
         return Outcome::Refused(k);
     }

@@ -2,3 +2,4 @@ pub mod Acceptance
 pub mod CountLaws
 pub mod VerdictLaws
 pub mod SheetLaws
+pub mod UnitLaws

@@ -1,39 +1,14 @@
-// What a host links: numbers and byte slices only. An answer is a number: that of a refusal, or one of those below.
-use candidates::Outcome;
-use engine::Counted;
-use engine::Solved;
-use sheet_marking::Marked;
+// What a host of the hall links: numbers and byte slices only. An answer is a number: that of a refusal, or one of `host::Answer`.
+use units::Unit;
 ghost use mathlib.Core.Path.{_≡_};
-ghost use Rattle.rules.specs.Sums.{targetSums};
-ghost use Rattle.rules.specs.Grid.{puzzle};
-ghost use Rattle.sheet_marking.specs.Answer.{markSheet};
-ghost use Rattle.rules.specs.Mark.{marksOf};
-ghost use Rattle.engine.specs.Answer.{countAnswer, solveAnswer, SolveWritten};
-ghost use Prim.Native.Nat.{min};
 ghost use lib.ListN.{length};
-ghost use Rattle.table.specs.Table.{entriesOf};
-ghost use Rattle.table_bytes.specs.Entries.{mostLent};
-ghost use Rattle.doppelblock.specs.Number.{TableNumbered, sheetNumber, countOut, solveNumber};
-
-pub struct Answer {
-    pub number: u8,
-}
-
-impl Answer {
-    pub const WRONG: u8 = 100;
-
-    pub const RIGHT: u8 = 101;
-
-    pub const UNSOLVABLE: u8 = 100;
-
-    pub const UNIQUE: u8 = 101;
-
-    pub const MULTIPLE: u8 = 102;
-
-    pub const WRITTEN: u8 = 0;
-
-    pub const CONTRADICTED: u8 = 100;
-}
+ghost use Rattle.units.specs.Limits.{hall, listLimit};
+ghost use Rattle.rules.specs.Grid.{puzzle};
+ghost use Rattle.rules.specs.Mark.{marksOf};
+ghost use Rattle.rules.specs.Sums.{targetSums};
+ghost use Rattle.sheet_marking.specs.Answer.{markSheet};
+ghost use Rattle.engine.specs.Answer.{countAnswer, solveAnswer, SolveWritten};
+ghost use Rattle.host.specs.Number.{TableNumbered, sheetNumber, countOut, solveNumber};
 
 // 0 where both target slices hold the sums, else the number of the refusal.
 #[no_mangle]
@@ -43,19 +18,9 @@ pub extern "C" fn doppelblock_target_sums(
     rows: &mut [u8],
     columns: &mut [u8],
 ) -> u8
-    ensures { λ r. ⌜ (r, now (rows .exit), now (columns .exit)) ≡ targetSums size (now (cells .entry)) (now (rows .entry)) (now (columns .entry)) ⌝ }
+    ensures { λ r. ⌜ (r, now (rows .exit), now (columns .exit)) ≡ targetSums hall size (now (cells .entry)) (now (rows .entry)) (now (columns .entry)) ⌝ }
 {
-    target_sums::number(target_sums::compute_targets(size, cells, rows, columns))
-}
-
-fn sheet_number(answer: Marked) -> u8
-    ensures { λ r. ⌜ r ≡ sheetNumber answer ⌝ }
-{
-    match answer {
-        Marked::Refused(k) => k,
-        Marked::Right => Answer::RIGHT,
-        Marked::Wrong => Answer::WRONG,
-    }
+    host::target_sums(Unit::HALL, size, cells, rows, columns)
 }
 
 // WRONG or RIGHT, or the number of the refusal.
@@ -66,9 +31,9 @@ pub extern "C" fn doppelblock_mark_sheet(
     columns: &[u8],
     cells: &[u8],
 ) -> u8
-    ensures { λ r. ⌜ r ≡ sheetNumber (markSheet (puzzle size (now (rows .entry)) (now (columns .entry))) (now (cells .entry))) ⌝ }
+    ensures { λ r. ⌜ r ≡ sheetNumber (markSheet hall (puzzle size (now (rows .entry)) (now (columns .entry))) (now (cells .entry))) ⌝ }
 {
-    sheet_number(sheet_marking::mark_sheet(size, rows, columns, cells))
+    host::mark_sheet(Unit::HALL, size, rows, columns, cells)
 }
 
 // 0 where the count is the smaller of the cap and the number of grids that keep the puzzle and the marks, else the number of the refusal.
@@ -82,26 +47,9 @@ pub extern "C" fn doppelblock_count(
     count: &mut u64,
 ) -> u8
     ensures { λ r. ⌜ (r, now (count .exit)) ≡ countOut
-        (countAnswer (puzzle size (now (rows .entry)) (now (columns .entry))) (marksOf (now (marks .entry))) cap) (now (count .entry)) ⌝ }
+        (countAnswer hall (puzzle size (now (rows .entry)) (now (columns .entry))) (marksOf (now (marks .entry))) cap) (now (count .entry)) ⌝ }
 {
-    match engine::count(size, rows, columns, marks, cap) {
-        Counted::Refused(k) => k,
-        Counted::Count(c) => {
-            *count = c;
-            0
-        }
-    }
-}
-
-fn solve_number(answer: Solved) -> u8
-    ensures { λ r. ⌜ r ≡ solveNumber answer ⌝ }
-{
-    match answer {
-        Solved::Refused(k) => k,
-        Solved::Unsolvable => Answer::UNSOLVABLE,
-        Solved::Unique => Answer::UNIQUE,
-        Solved::Multiple => Answer::MULTIPLE,
-    }
+    host::count(Unit::HALL, size, rows, columns, marks, cap, count)
 }
 
 // UNSOLVABLE, UNIQUE or MULTIPLE, or the number of the refusal. The cells hold one of the grids, if there is one.
@@ -114,33 +62,10 @@ pub extern "C" fn doppelblock_solve(
     cells: &mut [u8],
 ) -> u8
     ensures { λ r. ⌜ (r ≡ solveNumber
-        (solveAnswer (puzzle size (now (rows .entry)) (now (columns .entry))) (marksOf (now (marks .entry))) (length (now (cells .entry)))))
-        × SolveWritten (puzzle size (now (rows .entry)) (now (columns .entry))) (marksOf (now (marks .entry))) (now (cells .entry)) (now (cells .exit)) ⌝ }
+        (solveAnswer hall (puzzle size (now (rows .entry)) (now (columns .entry))) (marksOf (now (marks .entry))) (length (now (cells .entry)))))
+        × SolveWritten hall (puzzle size (now (rows .entry)) (now (columns .entry))) (marksOf (now (marks .entry))) (now (cells .entry)) (now (cells .exit)) ⌝ }
 {
-    solve_number(engine::solve(size, rows, columns, marks, cells))
-}
-
-// Candidates by way of lent entries, which become the bytes of the table where they are written.
-fn candidates_by_entries(
-    size: usize,
-    rows: &[u8],
-    columns: &[u8],
-    marks: &[u8],
-    entries: &mut [u16],
-    table: &mut [u8],
-) -> u8
-    requires { ⌜ length (now entries) ≡ min (length (entriesOf (now table))) mostLent ⌝ }
-    ensures { λ r. ⌜ TableNumbered (puzzle size (now (rows .entry)) (now (columns .entry))) (marksOf (now (marks .entry)))
-        r (now (table .entry)) (now (table .exit)) ⌝ }
-{
-    match candidates::candidates(size, rows, columns, marks, entries) {
-        Outcome::Refused(k) => k,
-        Outcome::Contradicted => Answer::CONTRADICTED,
-        Outcome::Written => {
-            table_bytes::write_entries(entries, table);
-            Answer::WRITTEN
-        }
-    }
+    host::solve(Unit::HALL, size, rows, columns, marks, cells)
 }
 
 // WRITTEN where the table holds the candidates that remain, CONTRADICTED where a cell has none, or the number of the refusal.
@@ -152,10 +77,24 @@ pub extern "C" fn doppelblock_candidates(
     marks: &[u8],
     table: &mut [u8],
 ) -> u8
-    ensures { λ r. ⌜ TableNumbered (puzzle size (now (rows .entry)) (now (columns .entry))) (marksOf (now (marks .entry)))
+    ensures { λ r. ⌜ TableNumbered hall (puzzle size (now (rows .entry)) (now (columns .entry))) (marksOf (now (marks .entry)))
         r (now (table .entry)) (now (table .exit)) ⌝ }
 {
-    let count = table_bytes::lent_count(table.len());
-    let mut entries = [0u16; table_bytes::MOST_LENT];
-    candidates_by_entries(size, rows, columns, marks, &mut entries[..count], table)
+    host::candidates(Unit::HALL, size, rows, columns, marks, table)
+}
+
+// The greatest size of the unit.
+#[no_mangle]
+pub extern "C" fn doppelblock_size_limit() -> usize
+    ensures { λ r. ⌜ r ≡ hall .greatest ⌝ }
+{
+    units::hall_size_limit()
+}
+
+// The greatest number of marks in a list, or the greatest number of all where the unit takes any list.
+#[no_mangle]
+pub extern "C" fn doppelblock_list_limit() -> usize
+    ensures { λ r. ⌜ r ≡ listLimit hall ⌝ }
+{
+    units::hall_list_limit()
 }

@@ -1,9 +1,10 @@
 // Count and Solve (in the Rust: count_solutions and solve).
 use backtrack::search;
-use mark_list::marks_refusal;
+use mark_list::list_refusal;
 use prepare::prepare;
 use puzzle::puzzle_refusal;
 use slab::Slab;
+use units::Unit;
 ghost use mathlib.Core.Path.{_≡_};
 ghost use Rattle.rules.specs.Mark.{marksOf};
 ghost use lib.ListN.{length};
@@ -25,14 +26,14 @@ pub enum Solved {
 }
 
 // The number that a puzzle or its marks are refused by, or 0.
-fn count_refusal(n: usize, rows: &[u8], columns: &[u8], marks: &[u8]) -> u8
-    ensures { λ r. ⌜ r ≡ refusal (countChecks (puzzle n (now (rows .entry)) (now (columns .entry))) (marksOf (now (marks .entry)))) ⌝ }
+fn count_refusal(unit: Unit, n: usize, rows: &[u8], columns: &[u8], marks: &[u8]) -> u8
+    ensures { λ r. ⌜ r ≡ refusal (countChecks unit (puzzle n (now (rows .entry)) (now (columns .entry))) (marksOf (now (marks .entry)))) ⌝ }
 {
-    let k = puzzle_refusal(n, rows, columns);
+    let k = puzzle_refusal(unit, n, rows, columns);
     if k != 0 {
         return k;
     }
-    marks_refusal(n, marks)
+    list_refusal(unit, n, marks)
 }
 
 // The count of what is not refused.
@@ -50,10 +51,17 @@ fn count_grids(n: usize, rows: &[u8], columns: &[u8], marks: &[u8], cap: u64) ->
 }
 
 // The number of grids that keep the puzzle and the marks, at most the cap.
-pub fn count(size: usize, rows: &[u8], columns: &[u8], marks: &[u8], cap: u64) -> Counted
-    ensures { λ r. ⌜ r ≡ countAnswer (puzzle size (now (rows .entry)) (now (columns .entry))) (marksOf (now (marks .entry))) cap ⌝ }
+pub fn count(
+    unit: Unit,
+    size: usize,
+    rows: &[u8],
+    columns: &[u8],
+    marks: &[u8],
+    cap: u64,
+) -> Counted
+    ensures { λ r. ⌜ r ≡ countAnswer unit (puzzle size (now (rows .entry)) (now (columns .entry))) (marksOf (now (marks .entry))) cap ⌝ }
 {
-    let k = count_refusal(size, rows, columns, marks);
+    let k = count_refusal(unit, size, rows, columns, marks);
     if k != 0 {
         return Counted::Refused(k);
     }
@@ -61,10 +69,17 @@ pub fn count(size: usize, rows: &[u8], columns: &[u8], marks: &[u8], cap: u64) -
 }
 
 // The number that a puzzle, its marks or a cell buffer are refused by, or 0.
-pub fn solve_refusal(n: usize, rows: &[u8], columns: &[u8], marks: &[u8], len: usize) -> u8
-    ensures { λ r. ⌜ r ≡ refusal (solveChecks (puzzle n (now (rows .entry)) (now (columns .entry))) (marksOf (now (marks .entry))) len) ⌝ }
+pub fn solve_refusal(
+    unit: Unit,
+    n: usize,
+    rows: &[u8],
+    columns: &[u8],
+    marks: &[u8],
+    len: usize,
+) -> u8
+    ensures { λ r. ⌜ r ≡ refusal (solveChecks unit (puzzle n (now (rows .entry)) (now (columns .entry))) (marksOf (now (marks .entry))) len) ⌝ }
 {
-    let k = count_refusal(n, rows, columns, marks);
+    let k = count_refusal(unit, n, rows, columns, marks);
     if k != 0 {
         return k;
     }
@@ -97,11 +112,18 @@ fn verdict(found: u64) -> Solved
 }
 
 // The verdict, and one of the grids if there is one.
-pub fn solve(size: usize, rows: &[u8], columns: &[u8], marks: &[u8], cells: &mut [u8]) -> Solved
-    ensures { λ r. ⌜ (r ≡ solveAnswer (puzzle size (now (rows .entry)) (now (columns .entry))) (marksOf (now (marks .entry))) (length (now (cells .entry))))
-        × SolveWritten (puzzle size (now (rows .entry)) (now (columns .entry))) (marksOf (now (marks .entry))) (now (cells .entry)) (now (cells .exit)) ⌝ }
+pub fn solve(
+    unit: Unit,
+    size: usize,
+    rows: &[u8],
+    columns: &[u8],
+    marks: &[u8],
+    cells: &mut [u8],
+) -> Solved
+    ensures { λ r. ⌜ (r ≡ solveAnswer unit (puzzle size (now (rows .entry)) (now (columns .entry))) (marksOf (now (marks .entry))) (length (now (cells .entry))))
+        × SolveWritten unit (puzzle size (now (rows .entry)) (now (columns .entry))) (marksOf (now (marks .entry))) (now (cells .entry)) (now (cells .exit)) ⌝ }
 {
-    let k = solve_refusal(size, rows, columns, marks, cells.len());
+    let k = solve_refusal(unit, size, rows, columns, marks, cells.len());
     if k != 0 {
         return Solved::Refused(k);
     }

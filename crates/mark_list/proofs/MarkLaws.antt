@@ -10,10 +10,12 @@ use lib.ListN.{length, getD, drop, drop-of-length-le}
 use lib.Seq.{drop-cons}
 use borrow.Author.Tests.{eq-eqb, ne-eqb, lt-ltb, le-ltb}
 use Rattle.tally.specs.Tally.{join}
+use Rattle.units.specs.declared.Unit.{Unit}
+use Rattle.units.specs.Limits.{takesList}
 use Rattle.rules.specs.Mark.{markRow, markColumn, markValue, marksOf}
 use Rattle.rules.specs.Check.{refusal, named, checkMark}
-use Rattle.rules.specs.CheckParts.{markChecks}
-use Rattle.rules.proofs.CheckLaws.{numbered, refusal-skip, refusal-stop}
+use Rattle.rules.specs.CheckParts.{markChecks, listChecks}
+use Rattle.rules.proofs.CheckLaws.{lacks, numbered, refusal-skip, refusal-stop}
 use Rattle.mark_list.specs.declared.Mark.{Mark}
 use Rattle.mark_list.specs.Unpacked.{unpacked, wordAt}
 
@@ -97,7 +99,7 @@ unfolding refusal
 mark-4 n w h = rw (ne-eqb (w % 8) 0 h)
 
 pub mark-numbered : (n m : ℕ) → numbered (checkMark n m) ≡ true
-unfolding numbered
+unfolding lacks
 mark-numbered n m = refl
 
 -- ---- the checks of a list
@@ -119,3 +121,22 @@ module _ (n : ℕ) (bs : List ℕ) (i k : ℕ) (d : k ≡ refusal (checkMark n (
 pub list-end : (n : ℕ) (bs : List ℕ) (i : ℕ) → length bs ≤ 2 * i → refusal (markChecks n (marksOf (drop (2 * i) bs))) ≡ 0
 unfolding join refusal
 list-end n bs i h = rw (marks-end bs i h)
+
+-- ---- the length of a list
+
+-- as many marks as the code counts
+pub marks-length : (bs : List ℕ) (count : ℕ) → length bs ≤ 2 * count → 2 * count ≤ length bs + 1 → length (marksOf bs) ≡ count
+unfolding marksOf
+marks-length [] count a b = omega arith
+marks-length (x ∷ []) count a b = omega arith
+marks-length (x ∷ (y ∷ bs)) zero a b = absurd (omega arith)
+marks-length (x ∷ (y ∷ bs)) (suc count) a b = let e = marks-length bs count (omega arith) (omega arith) in omega arith
+
+module _ (u : Unit) (n : ℕ) (bs : List ℕ) (count : ℕ) (a : length bs ≤ 2 * count) (b : 2 * count ≤ length bs + 1) where
+  pub list-19 : takesList u count ≡ false → 19 ≡ refusal (listChecks u n (marksOf bs))
+  unfolding refusal
+  list-19 t = rw (marks-length bs count a b, t)
+
+  pub list-marks : (k : ℕ) → k ≡ refusal (markChecks n (marksOf bs)) → takesList u count ≡ true → k ≡ refusal (listChecks u n (marksOf bs))
+  unfolding refusal
+  list-marks k d t = rw (marks-length bs count a b, t) d

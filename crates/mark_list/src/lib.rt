@@ -1,4 +1,5 @@
 // Marks: read from bytes, unpacked, and checked (they stand for take_branch and reject_branch of the Rust).
+use units::Unit;
 use value::Value;
 use value::wide;
 ghost use mathlib.Core.Path.{_≡_};
@@ -6,7 +7,7 @@ ghost use Prim.Native.Nat.{_+_, _*_, _≤_, _<_};
 ghost use lib.ListN.{length};
 ghost use Rattle.rules.specs.Mark.{marksOf};
 ghost use Rattle.rules.specs.Check.{refusal, checkMark};
-ghost use Rattle.rules.specs.CheckParts.{markChecks};
+ghost use Rattle.rules.specs.CheckParts.{markChecks, listChecks};
 ghost use Rattle.rules.specs.Size.{Size};
 ghost use Rattle.mark_list.specs.Unpacked.{unpacked, wordAt};
 
@@ -80,8 +81,8 @@ fn mark_refusal(n: usize, word: u16) -> u8
     if v.is_named(n) { 0 } else { 6 }
 }
 
-// The number that a list of marks is refused by, mark by mark, or 0.
-pub fn marks_refusal(n: usize, bytes: &[u8]) -> u8
+// The number that the marks are refused by, mark by mark, or 0.
+fn marks_refusal(n: usize, bytes: &[u8]) -> u8
     requires { ⌜ Size n ⌝ }
     ensures { λ r. ⌜ r ≡ refusal (markChecks n (marksOf (now (bytes .entry)))) ⌝ }
 {
@@ -95,4 +96,15 @@ pub fn marks_refusal(n: usize, bytes: &[u8]) -> u8
         i += 1;
     }
     0
+}
+
+// The number that a list of marks is refused by in a unit, or 0: its length is asked before any mark.
+pub fn list_refusal(unit: Unit, n: usize, bytes: &[u8]) -> u8
+    requires { ⌜ Size n ⌝ }
+    ensures { λ r. ⌜ r ≡ refusal (listChecks unit n (marksOf (now (bytes .entry)))) ⌝ }
+{
+    if !unit.takes_list(mark_count(bytes.len())) {
+        return 19;
+    }
+    marks_refusal(n, bytes)
 }

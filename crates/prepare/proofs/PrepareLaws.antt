@@ -9,7 +9,6 @@ use lib.ListN.{length, getD}
 use borrow.Author.Tests.{leb-true}
 use Rattle.tally.specs.Tally.{all}
 use Rattle.tally.proofs.TallyLaws.{and-left, and-right, false-of}
-use Rattle.rules.proofs.SizeLaws.{size-in}
 use Rattle.rules.specs.Size.{Size}
 use Rattle.rules.specs.Check.{maxTarget}
 use Rattle.table.specs.Steps.{markedAll}
@@ -23,7 +22,7 @@ use Rattle.words.specs.Word.{Words}
 use Rattle.listing.specs.Listing.{OpenAsk}
 use Rattle.opening.specs.Opening.{Opened}
 use Rattle.rules.specs.Grid.{puzzle}
-use Rattle.puzzle.proofs.PuzzleLaws.{AcceptedPuzzle, accepted}
+use Rattle.puzzle.specs.Accepted.{AcceptedPuzzle}
 use Rattle.invariants.specs.State.{Kept, Lagging, PropagateAsk, Propagated}
 use Rattle.apply_marks.specs.Applied.{MarksApplied}
 use Rattle.prepare.specs.Prepared.{PrepareAsk, Prepared}
@@ -38,10 +37,10 @@ within m (t ∷ ts) e (suc i) h = within m ts (and-right (leb t m) _ e) i (omega
 
 module _ {n : ℕ} {rows columns ms ws₀ l₀ : List ℕ} (a : PrepareAsk (puzzle n rows columns) ms ws₀ l₀) where
   good : AcceptedPuzzle (puzzle n rows columns)
-  good = accepted (puzzle n rows columns) (a .puzzle)
+  good = a .puzzle
 
   pub prepare-size : Size n
-  prepare-size = size-in n (good .size-fits)
+  prepare-size = good .size
 
   module _ {ws l : List ℕ} (w : Words n ws) (f : Fresh n l) where
     pub prepare-open : OpenAsk n ws rows columns l

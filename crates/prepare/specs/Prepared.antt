@@ -5,9 +5,10 @@ use mathlib.Core.Bool.{Bool, true, false}
 use mathlib.Core.List.{List}
 use lib.ListN.{length}
 use Rattle.rules.specs.Grid.{Puzzle}
-use Rattle.rules.specs.Check.{refusal, puzzleChecks}
+use Rattle.rules.specs.Check.{refusal}
 use Rattle.rules.specs.CheckParts.{markChecks}
 use Rattle.rules.specs.Number.{number}
+use Rattle.puzzle.specs.Accepted.{AcceptedPuzzle}
 use Rattle.table.specs.Steps.{markedAll}
 use Rattle.soundness.specs.Marks.{Whole}
 use Rattle.slab.specs.Slab.{tableIn}
@@ -16,7 +17,7 @@ use Rattle.invariants.specs.State.{Kept, PropagateAsk}
 
 -- What it asks: a puzzle and marks that are not refused, and blank memory.
 pub record PrepareAsk (p : Puzzle) (ms ws l : List ℕ) : Type 0 where
-  pub puzzle : refusal (puzzleChecks p) ≡ 0
+  pub puzzle : AcceptedPuzzle p
   pub marks : refusal (markChecks (p .size) ms) ≡ 0
   pub room : length ws ≡ 1152
   pub blank : Blank l

@@ -1,4 +1,5 @@
-// The checks of a puzzle: its size, the lengths of its target slices, its targets (in the Rust: Puzzle::try_new and max_target).
+// The checks of a puzzle: its size, the unit's limit, the lengths of its target slices, its targets (in the Rust: Puzzle::try_new and max_target).
+use units::Unit;
 ghost use mathlib.Core.Path.{_≡_};
 ghost use lib.Dec.{leb};
 ghost use Rattle.tally.specs.Tally.{all};
@@ -46,12 +47,15 @@ fn all_within(limit: usize, targets: &[u8]) -> bool
     true
 }
 
-// The number that a puzzle is refused by, or 0.
-pub fn puzzle_refusal(n: usize, rows: &[u8], columns: &[u8]) -> u8
-    ensures { λ r. ⌜ r ≡ refusal (puzzleChecks (puzzle n (now (rows .entry)) (now (columns .entry)))) ⌝ }
+// The number that a puzzle is refused by in a unit, or 0.
+pub fn puzzle_refusal(unit: Unit, n: usize, rows: &[u8], columns: &[u8]) -> u8
+    ensures { λ r. ⌜ r ≡ refusal (puzzleChecks unit (puzzle n (now (rows .entry)) (now (columns .entry)))) ⌝ }
 {
     if !size_fits(n) {
         return 1;
+    }
+    if !unit.takes_size(n) {
+        return 18;
     }
     if !targets_fit(n, rows.len(), columns.len()) {
         return 2;

@@ -6,6 +6,7 @@ use mathlib.Core.Bool.{Bool, true, false, not, false≢true}
 use mathlib.Core.List.{List, [], _∷_}
 use lib.ListN.{length, getD, take}
 use borrow.Author.Tests.{not-true, not-false}
+use Rattle.units.specs.Limits.{hall}
 use Rattle.rules.specs.Sums.{targetSums}
 use Rattle.rules.specs.CheckParts.{sizeFits}
 use Rattle.rules.specs.Grid.{puzzle}
@@ -16,7 +17,7 @@ use Rattle.sheet_marking.specs.declared.LineFault.{LineFault}
 use Rattle.sheet_marking.specs.Answer.{markSheet}
 use Rattle.sheet_marking.specs.Fault.{lineFault}
 use Rattle.sheet_marking.specs.Marking.{MarkLineAsk}
-use Rattle.doppelblock.specs.Number.{sheetNumber}
+use Rattle.host.specs.Number.{sheetNumber}
 use Rattle.record_fields.specs.Fields.{field, recordSize}
 use Rattle.record_fields.specs.Recorded.{Says, SumsRecorded}
 use Rattle.record_fields.proofs.RecordedLaws.{says-no, says-also}
@@ -26,7 +27,7 @@ module _ (xs : List ℕ) where
   -- The target sums were called on the record's size and cells.
   pub sums-called :
       (size number : ℕ) (cells rows columns rows′ columns′ : List ℕ) (b : Bool) → size ≡ recordSize xs → cells ≡ field xs 1
-      → (number, rows′, columns′) ≡ targetSums size cells rows columns → Says b (SumsRecorded number rows′ columns′ xs)
+      → (number, rows′, columns′) ≡ targetSums hall size cells rows columns → Says b (SumsRecorded number rows′ columns′ xs)
       → Says b (SumsFrom rows columns xs)
   sums-called size number cells rows columns rows′ columns′ b s e g h =
       rw (← s, ← e, ← g) h
@@ -53,7 +54,7 @@ module _ (xs : List ℕ) where
   -- Marking was called on the record's puzzle and cells.
   pub sheet-called :
       (size number : ℕ) (rows columns cells : List ℕ) (b : Bool) → size ≡ recordSize xs → rows ≡ field xs 1 → columns ≡ field xs 2
-      → cells ≡ field xs 3 → number ≡ sheetNumber (markSheet (puzzle size rows columns) cells) → Says b (field xs 4 ≡ number ∷ []) → Says b (SheetAgrees xs)
+      → cells ≡ field xs 3 → number ≡ sheetNumber (markSheet hall (puzzle size rows columns) cells) → Says b (field xs 4 ≡ number ∷ []) → Says b (SheetAgrees xs)
   sheet-called size number rows columns cells b s r c e n h = rw (n, s, r, c, e) at h
 
   -- The check of a line was called on the record's size, target and cells.

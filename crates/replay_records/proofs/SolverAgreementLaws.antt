@@ -5,10 +5,11 @@ use mathlib.Core.Path.{_≡_, refl, sym, ap, _∙_, subst}
 use mathlib.Core.Bool.{Bool, true, false, false≢true}
 use mathlib.Core.List.{List, [], _∷_}
 use lib.ListN.{length, take}
+use Rattle.units.specs.Limits.{hall}
 use Rattle.rules.specs.Mark.{marksOf}
 use Rattle.rules.specs.Grid.{puzzle}
 use Rattle.engine.specs.Answer.{countAnswer, solveAnswer, SolveWritten}
-use Rattle.doppelblock.specs.Number.{countOut, solveNumber, TableNumbered}
+use Rattle.host.specs.Number.{countOut, solveNumber, TableNumbered}
 use Rattle.record_fields.specs.Fields.{field, recordSize, numberFrom}
 use Rattle.record_fields.specs.Recorded.{Says}
 use Rattle.record_fields.proofs.RecordedLaws.{says-no, says-also}
@@ -22,7 +23,7 @@ module _ (xs : List ℕ) where
   pub count-called :
       (size number cap old new : ℕ) (rows columns marks : List ℕ) (b : Bool) → size ≡ recordSize xs → rows ≡ field xs 1 → columns ≡ field xs 2
       → marks ≡ field xs 3
-      → (number, new) ≡ countOut (countAnswer (puzzle size rows columns) (marksOf marks) cap) old
+      → (number, new) ≡ countOut (countAnswer hall (puzzle size rows columns) (marksOf marks) cap) old
       → Says b (CountRecorded number new xs) → Says b (CountFrom cap old xs)
   count-called size number cap old new rows columns marks b s r c m g h = rw (← s, ← r, ← c, ← m, ← g) h
 
@@ -48,13 +49,13 @@ module _ (xs : List ℕ) where
   module _ (size number : ℕ) (rows columns marks content after : List ℕ) (b : Bool) (s : size ≡ recordSize xs) (r : rows ≡ field xs 1)
       (c : columns ≡ field xs 2) (m : marks ≡ field xs 3) (h : Says b (BufferRecorded number after xs)) where
     -- Candidates was called on the record's puzzle and marks.
-    pub table-called : TableNumbered (puzzle size rows columns) (marksOf marks) number content after → TableFrom content b xs
+    pub table-called : TableNumbered hall (puzzle size rows columns) (marksOf marks) number content after → TableFrom content b xs
     table-called g = record { number = number; after = after; promised = rw (s, r, c, m) at g; says = h }
 
     -- Solve was called on the record's puzzle and marks.
     pub cells-called :
-        (number ≡ solveNumber (solveAnswer (puzzle size rows columns) (marksOf marks) (length content)))
-        × SolveWritten (puzzle size rows columns) (marksOf marks) content after → CellsFrom content b xs
+        (number ≡ solveNumber (solveAnswer hall (puzzle size rows columns) (marksOf marks) (length content)))
+        × SolveWritten hall (puzzle size rows columns) (marksOf marks) content after → CellsFrom content b xs
     cells-called g = record { number = number; after = after; promised = rw (s, r, c, m) at g; says = h }
 
   module _ (Promised : List ℕ → ℕ → List ℕ → Type 0) (content : List ℕ) (is-content : content ≡ field xs 4) where

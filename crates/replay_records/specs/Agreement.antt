@@ -4,6 +4,7 @@ use mathlib.Core.Path.{_≡_}
 use mathlib.Core.Bool.{true}
 use mathlib.Core.List.{List, [], _∷_}
 use lib.ListN.{length, getD}
+use Rattle.units.specs.Limits.{hall}
 use Rattle.rules.specs.Sums.{targetSums}
 use Rattle.rules.specs.CheckParts.{sizeFits}
 use Rattle.rules.specs.Grid.{puzzle}
@@ -11,7 +12,7 @@ use Rattle.sheet_marking.specs.Answer.{markSheet}
 use Rattle.sheet_marking.specs.declared.LineFault.{LineFault}
 use Rattle.sheet_marking.specs.declared.LineFault.the-variants.{Digits, Blacks, Sum, None}
 use Rattle.sheet_marking.specs.Fault.{lineFault}
-use Rattle.doppelblock.specs.Number.{sheetNumber}
+use Rattle.host.specs.Number.{sheetNumber}
 use Rattle.record_fields.specs.Fields.{field, recordSize}
 use Rattle.record_fields.specs.Recorded.{SumsRecorded}
 
@@ -21,7 +22,7 @@ SumsAs given xs = SumsRecorded (given .0) (given .1) (given .2) xs
 
 -- The record has the target sums of its size and cells, where the target slices hold these bytes to begin with.
 abbrev pub SumsFrom : List ℕ → List ℕ → List ℕ → Type 0
-SumsFrom rows columns xs = SumsAs (targetSums (recordSize xs) (field xs 1) rows columns) xs
+SumsFrom rows columns xs = SumsAs (targetSums hall (recordSize xs) (field xs 1) rows columns) xs
 
 -- A record of target sums is right, and its target slices fit the buffers that it is replayed with.
 pub record SumsAgree (xs : List ℕ) : Type 0 where
@@ -31,7 +32,7 @@ pub record SumsAgree (xs : List ℕ) : Type 0 where
 
 -- A record of a marked sheet is right.
 abbrev pub SheetAgrees : List ℕ → Type 0
-SheetAgrees xs = field xs 4 ≡ sheetNumber (markSheet (puzzle (recordSize xs) (field xs 1) (field xs 2)) (field xs 3)) ∷ []
+SheetAgrees xs = field xs 4 ≡ sheetNumber (markSheet hall (puzzle (recordSize xs) (field xs 1) (field xs 2)) (field xs 3)) ∷ []
 
 -- The number of the step that a line fails first, 0 for none.
 abbrev pub stepNumber : LineFault → ℕ

@@ -5,11 +5,12 @@ use mathlib.Core.Path.{_≡_}
 use mathlib.Core.Bool.{Bool, false}
 use mathlib.Core.List.{List}
 use lib.ListN.{length}
+use Rattle.units.specs.Limits.{hall}
 use Rattle.rules.specs.Grid.{Puzzle, puzzle}
 use Rattle.rules.specs.Mark.{marksOf}
 use Rattle.engine.specs.declared.Counted.{Counted}
 use Rattle.engine.specs.Answer.{countAnswer, solveAnswer, SolveWritten}
-use Rattle.doppelblock.specs.Number.{countOut, solveNumber, TableNumbered}
+use Rattle.host.specs.Number.{countOut, solveNumber, TableNumbered}
 use Rattle.record_fields.specs.Fields.{field, recordSize, numberFrom}
 use Rattle.record_fields.specs.Recorded.{Says, CountRecorded, BufferRecorded}
 
@@ -29,7 +30,7 @@ CountAs answer old xs = CountRecorded (countOut answer old .0) (countOut answer 
 
 -- The record has the count of its puzzle and marks under a cap.
 abbrev pub CountFrom : ℕ → ℕ → List ℕ → Type 0
-CountFrom cap old xs = CountAs (countAnswer (recordPuzzle xs) (marksIn xs) cap) old xs
+CountFrom cap old xs = CountAs (countAnswer hall (recordPuzzle xs) (marksIn xs) cap) old xs
 
 -- A record of a count is right, and its numbers have eight bytes.
 pub record CountAgrees (xs : List ℕ) : Type 0 where
@@ -53,7 +54,7 @@ pub record FittingCompared (r : Bool) (Promised : ℕ → List ℕ → Type 0) (
 
 -- What Candidates promises of its number and of the table, before and afterwards.
 abbrev pub TablePromised : List ℕ → List ℕ → ℕ → List ℕ → Type 0
-TablePromised xs table number after = TableNumbered (recordPuzzle xs) (marksIn xs) number table after
+TablePromised xs table number after = TableNumbered hall (recordPuzzle xs) (marksIn xs) number table after
 
 -- What a test of the call says, where the table holds these bytes to begin with.
 abbrev pub TableFrom : List ℕ → Bool → List ℕ → Type 0
@@ -66,7 +67,7 @@ TableFound r xs = FittingCompared r (TablePromised xs (field xs 4)) xs
 -- What Solve promises of its number and of the cells, before and afterwards.
 abbrev pub CellsPromised : List ℕ → List ℕ → ℕ → List ℕ → Type 0
 CellsPromised xs cells number after =
-    (number ≡ solveNumber (solveAnswer (recordPuzzle xs) (marksIn xs) (length cells))) × SolveWritten (recordPuzzle xs) (marksIn xs) cells after
+    (number ≡ solveNumber (solveAnswer hall (recordPuzzle xs) (marksIn xs) (length cells))) × SolveWritten hall (recordPuzzle xs) (marksIn xs) cells after
 
 -- What a test of the call says, where the cells hold these bytes to begin with.
 abbrev pub CellsFrom : List ℕ → Bool → List ℕ → Type 0

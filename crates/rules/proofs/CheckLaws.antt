@@ -1,27 +1,39 @@
 -- Laws of the refusal of a list of checks. Assumes nothing.
 use Prim.Native.Nat.{ℕ, zero, suc, _+_, _≤_, _<_}
-use mathlib.Core.Path.{_≡_, refl, sym, _∙_}
-use mathlib.Core.Bool.{Bool, true, false, not, true≢false}
-use borrow.Author.Tests.{not-true, not-false}
+use mathlib.Core.Path.{_≡_, refl, sym, ap, _∙_}
+use mathlib.Core.Bool.{Bool, true, false, not, _&&_, true≢false}
+use lib.Dec.{eqb}
+use borrow.Author.Tests.{not-true, not-false, eq-eqb}
 use mathlib.Core.List.{List, [], _∷_, _++_, map, append-assoc}
 use native.Mathlib.Omega.{arith}
 use native.Mathlib.Decide.{ℕ-discrete}
 use Rattle.tally.specs.Tally.{join, span}
+use Rattle.tally.proofs.TallyLaws.{and-left, and-right, and-both}
 use Rattle.rules.specs.Check.{Check, check, refusal}
 
--- no check has the number 0
-unfoldable pub numbered : List Check → Bool
-numbered [] = true
-numbered (check zero b ∷ qs) = false
-numbered (check (suc k) b ∷ qs) = numbered qs
+-- no check has the number k
+unfoldable pub lacks : ℕ → List Check → Bool
+lacks k [] = true
+lacks k (check j b ∷ qs) = not (eqb j k) && lacks k qs
+
+-- no check has the number 0, which says that nothing is refused
+abbrev pub numbered : List Check → Bool
+numbered qs = lacks 0 qs
+
+-- their refusal is another number
+pub refusal-lacks : (k : ℕ) (a : List Check) → lacks k a ≡ true → (k ≡ 0 → ⊥) → refusal a ≡ k → ⊥
+unfolding refusal lacks
+refusal-lacks k [] h z e = z (sym e)
+refusal-lacks k (check j true ∷ qs) h z e = refusal-lacks k qs (and-right (not (eqb j k)) (lacks k qs) h) z e
+refusal-lacks k (check j false ∷ qs) h z e =
+    true≢false (sym (and-left (not (eqb j k)) (lacks k qs) h) ∙ ap not (eq-eqb j k e))
 
 -- where none of the first checks refuses, the later ones decide
 pub refusal-skip : (a b : List Check) → numbered a ≡ true → refusal a ≡ 0 → refusal (a ++ b) ≡ refusal b
-unfolding refusal numbered
+unfolding refusal lacks
 refusal-skip [] b h e = refl
-refusal-skip (check zero y ∷ qs) b h e = absurd (true≢false (sym h))
-refusal-skip (check (suc k) true ∷ qs) b h e = refusal-skip qs b h e
-refusal-skip (check (suc k) false ∷ qs) b h e = absurd (omega arith)
+refusal-skip (check j true ∷ qs) b h e = refusal-skip qs b (and-right (not (eqb j 0)) (lacks 0 qs) h) e
+refusal-skip (check j false ∷ qs) b h e = absurd (true≢false (sym (and-left (not (eqb j 0)) (lacks 0 qs) h) ∙ ap not (eq-eqb j 0 e)))
 
 -- where one of them refuses, it stays so
 pub refusal-stop : (a b : List Check) → (refusal a ≡ 0 → ⊥) → refusal (a ++ b) ≡ refusal a
@@ -29,6 +41,11 @@ unfolding refusal
 refusal-stop [] b h = absurd (h refl)
 refusal-stop (check k true ∷ qs) b h = refusal-stop qs b h
 refusal-stop (check k false ∷ qs) b h = refl
+
+-- a check that passes leaves it to those behind it
+pub refusal-pass : (k : ℕ) (b : Bool) (qs : List Check) → b ≡ true → refusal (check k b ∷ qs) ≡ refusal qs
+unfolding refusal
+refusal-pass k b qs e = rw e
 
 -- what a call that makes a check tells, behind a `!`
 pub said-yes : (b q : Bool) → b ≡ q → not b ≡ false → q ≡ true
@@ -56,19 +73,19 @@ refusal-none-left a b e = elim (ℕ-discrete (refusal a) 0) [ yes z ↦ z | no z
 pub refusal-none-right : (a b : List Check) → numbered a ≡ true → refusal (a ++ b) ≡ 0 → refusal b ≡ 0
 refusal-none-right a b h e = sym (refusal-skip a b h (refusal-none-left a b e)) ∙ e
 
-pub numbered-append : (a b : List Check) → numbered a ≡ true → numbered b ≡ true → numbered (a ++ b) ≡ true
-unfolding numbered
-numbered-append [] b h k = k
-numbered-append (check zero y ∷ qs) b h k = absurd (true≢false (sym h))
-numbered-append (check (suc n) y ∷ qs) b h k = numbered-append qs b h k
+pub lacks-append : (k : ℕ) (a b : List Check) → lacks k a ≡ true → lacks k b ≡ true → lacks k (a ++ b) ≡ true
+unfolding lacks
+lacks-append k [] b h l = l
+lacks-append k (check j y ∷ qs) b h l =
+    and-both (and-left (not (eqb j k)) (lacks k qs) h) (lacks-append k qs b (and-right (not (eqb j k)) (lacks k qs) h) l)
 
 -- the same checks of one thing after the other
-module _ (f : ℕ → List Check) (h : (i : ℕ) → numbered (f i) ≡ true) where
-  pub numbered-join : (a k : ℕ) → numbered (join (map f (span a k))) ≡ true
-  unfolding span join numbered
-  numbered-join a zero = refl
-  numbered-join a (suc k) = numbered-append (f a) (join (map f (span (suc a) k))) (h a) (numbered-join (suc a) k)
+pub lacks-join : {A : Type 0} (k : ℕ) (f : A → List Check) → ((x : A) → lacks k (f x) ≡ true) → (xs : List A) → lacks k (join (map f xs)) ≡ true
+unfolding join lacks
+lacks-join k f h [] = refl
+lacks-join k f h (x ∷ xs) = lacks-append k (f x) (join (map f xs)) (h x) (lacks-join k f h xs)
 
+module _ (f : ℕ → List Check) (h : (i : ℕ) → numbered (f i) ≡ true) where
   pub refusal-none-each : (a k : ℕ) → refusal (join (map f (span a k))) ≡ 0 → (i : ℕ) → a ≤ i → i < a + k → refusal (f i) ≡ 0
   unfolding span join
   refusal-none-each a zero e i l u = absurd (omega arith)

@@ -7,3 +7,5 @@ pub mod Samples
 mod SizeFour
 pub mod SizeLaws
 pub mod StridedLaws
+mod UnitFacts
+pub mod UnitLaws

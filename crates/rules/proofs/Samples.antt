@@ -5,6 +5,7 @@ use mathlib.Core.Bool.{Bool, true, false}
 use mathlib.Core.List.{List, [], _∷_, map}
 use lib.Dec.{eqb}
 use Rattle.tally.specs.Tally.{span, sum, all, count, inFront, ways, keep, join}
+use Rattle.units.specs.Limits.{hall}
 use Rattle.rules.specs.Grid.{digits, lawful, untilBlack, inside, lineSum, meets, keepsLine, cell, row, column, line, lines, lawfulGrid, Puzzle, target, keeps}
 use Rattle.rules.specs.Mark.{rejects, markRow, markColumn, markValue, markSpare, blackWith, has, keepsMark, marksOf}
 use Rattle.rules.specs.Number.{grids, solves, number, capped}
@@ -81,7 +82,7 @@ repeating = 255 ∷ 1 ∷ 1 ∷ 255 ∷ 2 ∷ 255 ∷ 255 ∷ 2 ∷ 2 ∷ 255 �
 pub record SampleFacts : Type 0 where
   -- Size 2 has one grid, all black; the target 1 is refused by 3, wherever it stands.
   pub size-2 : keep (solves (two 0 0 0 0) []) (grids 2) ≡ (255 ∷ 255 ∷ 255 ∷ 255 ∷ []) ∷ []
-  pub size-2-refused : map (λ p. refusal (countChecks p [])) (two 0 0 0 0 ∷ two 1 0 0 0 ∷ two 0 1 0 0 ∷ two 0 0 1 0 ∷ two 0 0 0 1 ∷ []) ≡ 0 ∷ 3 ∷ 3 ∷ 3 ∷ 3 ∷ []
+  pub size-2-refused : map (λ p. refusal (countChecks hall p [])) (two 0 0 0 0 ∷ two 1 0 0 0 ∷ two 0 1 0 0 ∷ two 0 0 1 0 ∷ two 0 0 0 1 ∷ []) ≡ 0 ∷ 3 ∷ 3 ∷ 3 ∷ 3 ∷ []
   -- Size 3 has six grids over all targets.
   pub size-3 : count (lawfulGrid 3) (grids 3) ≡ 6
   -- The counts above.
@@ -100,9 +101,9 @@ pub record SampleFacts : Type 0 where
   pub size-4-repeats : keeps (record { size = 4; rows = 2 ∷ 0 ∷ 0 ∷ 2 ∷ []; columns = 4 ∷ 0 ∷ 0 ∷ 4 ∷ [] }) repeating ≡ false
   -- Hex 08c0: take row 1, column 1, value 8. At size 3 the value 1 is taken, 2 is not. At size 9 the target 28 is taken, 29 is not.
   pub mark-fields : (rejects 0x08c0 ≡ false) × (markRow 0x08c0 ≡ 1) × (markColumn 0x08c0 ≡ 1) × (markValue 0x08c0 ≡ 8) × (markSpare 0x08c0 ≡ 0) × (rejects 0x88c0 ≡ true)
-  pub mark-named : map (λ m. refusal (countChecks (three 0 0 0 0 0 0) (m ∷ []))) (0x0008 ∷ 0x0010 ∷ 0x0040 ∷ 0x0058 ∷ 0x0060 ∷ 0x0009 ∷ 0x1808 ∷ 0x0188 ∷ []) ≡ 0 ∷ 6 ∷ 0 ∷ 0 ∷ 6 ∷ 4 ∷ 5 ∷ 5 ∷ []
+  pub mark-named : map (λ m. refusal (countChecks hall (three 0 0 0 0 0 0) (m ∷ []))) (0x0008 ∷ 0x0010 ∷ 0x0040 ∷ 0x0058 ∷ 0x0060 ∷ 0x0009 ∷ 0x1808 ∷ 0x0188 ∷ []) ≡ 0 ∷ 6 ∷ 0 ∷ 0 ∷ 6 ∷ 4 ∷ 5 ∷ 5 ∷ []
   pub targets-9 :
-      map (λ t. refusal (countChecks (record { size = 9; rows = t ∷ eight; columns = t ∷ eight }) [])) (28 ∷ 29 ∷ []) ≡ 0 ∷ 3 ∷ []
+      map (λ t. refusal (countChecks hall (record { size = 9; rows = t ∷ eight; columns = t ∷ eight }) [])) (28 ∷ 29 ∷ []) ≡ 0 ∷ 3 ∷ []
   pub max-targets : map maxTarget (span 2 8) ≡ 0 ∷ 1 ∷ 3 ∷ 6 ∷ 10 ∷ 15 ∷ 21 ∷ 28 ∷ []
   -- The blacks' values 8 to 11 at three cells of 1##/#1#/##1.
   pub blacks-top : map (has 3 diagonal 0 1) (8 ∷ 9 ∷ 10 ∷ 11 ∷ []) ≡ true ∷ false ∷ true ∷ false ∷ []
@@ -110,19 +111,19 @@ pub record SampleFacts : Type 0 where
   pub blacks-corner : map (has 3 diagonal 2 0) (8 ∷ 9 ∷ 10 ∷ 11 ∷ []) ≡ true ∷ false ∷ false ∷ true ∷ []
   -- Marks in bytes; half a mark is refused by 4.
   pub marks-in-bytes : marksOf (0x08 ∷ 0xc0 ∷ 0x80 ∷ 0x08 ∷ []) ≡ 0x08c0 ∷ 0x8008 ∷ []
-  pub half-a-mark : refusal (countChecks (three 0 0 0 0 0 0) (marksOf (0x00 ∷ 0x08 ∷ 0x00 ∷ []))) ≡ 4
+  pub half-a-mark : refusal (countChecks hall (three 0 0 0 0 0 0) (marksOf (0x00 ∷ 0x08 ∷ 0x00 ∷ []))) ≡ 4
   -- The order of the refusals.
-  pub size-first : refusal (solveChecks (record { size = 10; rows = []; columns = [] }) (1 ∷ []) 0) ≡ 1
-  pub lengths-next : refusal (solveChecks (record { size = 3; rows = 9 ∷ []; columns = zeros }) (1 ∷ []) 0) ≡ 2
-  pub targets-next : refusal (solveChecks (three 0 0 0 0 0 2) (1 ∷ []) 0) ≡ 3
-  pub marks-next : refusal (solveChecks (three 0 0 0 0 0 0) (0x0008 ∷ 0x0009 ∷ []) 0) ≡ 4
-  pub buffer-last : map (refusal) (solveChecks (three 0 0 0 0 0 0) (0x0008 ∷ []) 8 ∷ solveChecks (three 0 0 0 0 0 0) (0x0008 ∷ []) 9 ∷ []) ≡ 7 ∷ 0 ∷ []
-  pub sheet-buffer : map (λ g. refusal (sheetChecks (three 0 0 0 0 0 0) g)) (zeros ∷ corner ∷ []) ≡ 7 ∷ 0 ∷ []
+  pub size-first : refusal (solveChecks hall (record { size = 10; rows = []; columns = [] }) (1 ∷ []) 0) ≡ 1
+  pub lengths-next : refusal (solveChecks hall (record { size = 3; rows = 9 ∷ []; columns = zeros }) (1 ∷ []) 0) ≡ 2
+  pub targets-next : refusal (solveChecks hall (three 0 0 0 0 0 2) (1 ∷ []) 0) ≡ 3
+  pub marks-next : refusal (solveChecks hall (three 0 0 0 0 0 0) (0x0008 ∷ 0x0009 ∷ []) 0) ≡ 4
+  pub buffer-last : map (refusal) (solveChecks hall (three 0 0 0 0 0 0) (0x0008 ∷ []) 8 ∷ solveChecks hall (three 0 0 0 0 0 0) (0x0008 ∷ []) 9 ∷ []) ≡ 7 ∷ 0 ∷ []
+  pub sheet-buffer : map (λ g. refusal (sheetChecks hall (three 0 0 0 0 0 0) g)) (zeros ∷ corner ∷ []) ≡ 7 ∷ 0 ∷ []
   -- Target sums.
-  pub sums : targetSums 3 corner zeros zeros ≡ (0, hundred, hundred)
-  pub sums-short : targetSums 3 corner zeros [] ≡ (2, zeros, [])
-  pub sums-cells-first : targetSums 4 corner zeros [] ≡ (7, zeros, [])
-  pub sums-size-first : targetSums 10 corner zeros [] ≡ (1, zeros, [])
+  pub sums : targetSums hall 3 corner zeros zeros ≡ (0, hundred, hundred)
+  pub sums-short : targetSums hall 3 corner zeros [] ≡ (2, zeros, [])
+  pub sums-cells-first : targetSums hall 4 corner zeros [] ≡ (7, zeros, [])
+  pub sums-size-first : targetSums hall 10 corner zeros [] ≡ (1, zeros, [])
   pub one-black : refusal (checkLine (255 ∷ 1 ∷ 2 ∷ [])) ≡ 8
   pub three-blacks : refusal (checkLine (255 ∷ 255 ∷ 255 ∷ [])) ≡ 8
   -- a line with the faults of 9 and of 10 gives 9
@@ -132,7 +133,7 @@ pub record SampleFacts : Type 0 where
   -- nothing is asked of the cells outside the blacks
   pub outside-free : refusal (checkLine (0 ∷ 254 ∷ 255 ∷ 255 ∷ 0 ∷ [])) ≡ 0
   -- a repeated digit is not looked at
-  pub sums-repeats : targetSums 4 repeating ring ring ≡ (0, 2 ∷ 0 ∷ 0 ∷ 2 ∷ [], 4 ∷ 0 ∷ 0 ∷ 4 ∷ [])
+  pub sums-repeats : targetSums hall 4 repeating ring ring ≡ (0, 2 ∷ 0 ∷ 0 ∷ 2 ∷ [], 4 ∷ 0 ∷ 0 ∷ 4 ∷ [])
 
 pub facts : SampleFacts
 unfolding

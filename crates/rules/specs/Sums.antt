@@ -3,6 +3,7 @@ use Prim.Native.Nat.{ℕ, zero, suc}
 use mathlib.Core.List.{List, map}
 use lib.ListN.{length}
 use Rattle.tally.specs.Tally.{span}
+use Rattle.units.specs.declared.Unit.{Unit}
 use Rattle.rules.specs.Grid.{lineSum, row, column}
 use Rattle.rules.specs.Check.{refusal, sumsChecks}
 
@@ -11,6 +12,6 @@ abbrev pub summedAs : ℕ → ℕ → List ℕ → List ℕ → List ℕ → ℕ
 summedAs (suc k) n cells rows columns = (suc k, rows, columns)
 summedAs zero n cells rows columns = (0, map (λ r. lineSum (row n cells r)) (span 0 n), map (λ c. lineSum (column n cells c)) (span 0 n))
 
--- Target sums of a size, cells and two target slices: the number, and both slices afterwards.
-unfoldable pub targetSums : ℕ → List ℕ → List ℕ → List ℕ → ℕ × List ℕ × List ℕ
-targetSums n cells rows columns = summedAs (refusal (sumsChecks n cells (length rows) (length columns))) n cells rows columns
+-- Target sums in a unit, of a size, cells and two target slices: the number, and both slices afterwards.
+unfoldable pub targetSums : Unit → ℕ → List ℕ → List ℕ → List ℕ → ℕ × List ℕ × List ℕ
+targetSums u n cells rows columns = summedAs (refusal (sumsChecks u n cells (length rows) (length columns))) n cells rows columns

@@ -6,11 +6,12 @@ use mathlib.Core.List.{List, [], _∷_}
 use lib.ListN.{length, getD}
 use borrow.Author.Tests.{eq-eqb, ne-eqb, eqb-true, not-true, not-false}
 use Rattle.tally.specs.Tally.{all, span}
+use Rattle.units.specs.declared.Unit.{Unit}
 use Rattle.rules.specs.Grid.{keepsLine, keeps, Puzzle, target, puzzle}
 use Rattle.rules.specs.Check.{refusal, checkBuffer, puzzleChecks, sheetChecks}
 use Rattle.rules.specs.Strided.{strided}
 use Rattle.rules.proofs.CheckLaws.{refusal-skip, refusal-stop, refusal-none, refusal-none-left, refusal-none-right}
-use Rattle.rules.proofs.SizeLaws.{size-in, size-fit}
+use Rattle.rules.proofs.SizeLaws.{size-fit}
 use Rattle.rules.proofs.StridedLaws.{all-each-line}
 use Rattle.puzzle.proofs.PuzzleLaws.{puzzle-numbered, accepted}
 use Rattle.target_sums.proofs.SumsLaws.{rows-within, columns-within}
@@ -24,33 +25,33 @@ keepsAt step stride g n ts i = keepsLine n (getD ts i 0) (strided (i * step) str
 
 -- ---- the checks
 
-module _ (p : Puzzle) (g : List ℕ) (k : ℕ) (d : k ≡ refusal (puzzleChecks p)) where
-  pub sheet-puzzle : (k ≡ 0 → ⊥) → k ≡ refusal (sheetChecks p g)
+module _ (u : Unit) (p : Puzzle) (g : List ℕ) (k : ℕ) (d : k ≡ refusal (puzzleChecks u p)) where
+  pub sheet-puzzle : (k ≡ 0 → ⊥) → k ≡ refusal (sheetChecks u p g)
   unfolding sheetChecks
-  sheet-puzzle z = d ∙ sym (refusal-stop (puzzleChecks p) (checkBuffer (p .size) (length g) ∷ []) (λ e. z (d ∙ e)))
+  sheet-puzzle z = d ∙ sym (refusal-stop (puzzleChecks u p) (checkBuffer (p .size) (length g) ∷ []) (λ e. z (d ∙ e)))
 
-  past : k ≡ 0 → refusal (sheetChecks p g) ≡ refusal (checkBuffer (p .size) (length g) ∷ [])
+  past : k ≡ 0 → refusal (sheetChecks u p g) ≡ refusal (checkBuffer (p .size) (length g) ∷ [])
   unfolding sheetChecks
-  past z = refusal-skip (puzzleChecks p) (checkBuffer (p .size) (length g) ∷ []) (puzzle-numbered p) (sym d ∙ z)
+  past z = refusal-skip (puzzleChecks u p) (checkBuffer (p .size) (length g) ∷ []) (puzzle-numbered u p) (sym d ∙ z)
 
-  pub sheet-7 : k ≡ 0 → (length g ≡ p .size * p .size → ⊥) → 7 ≡ refusal (sheetChecks p g)
+  pub sheet-7 : k ≡ 0 → (length g ≡ p .size * p .size → ⊥) → 7 ≡ refusal (sheetChecks u p g)
   unfolding refusal
   sheet-7 z l = sym (past z ∙ rw (ne-eqb (length g) (p .size * p .size) l))
 
-  pub sheet-0 : k ≡ 0 → length g ≡ p .size * p .size → 0 ≡ refusal (sheetChecks p g)
+  pub sheet-0 : k ≡ 0 → length g ≡ p .size * p .size → 0 ≡ refusal (sheetChecks u p g)
   unfolding refusal
   sheet-0 z l = sym (past z ∙ rw (eq-eqb (length g) (p .size * p .size) l))
 
 -- ---- the sheet
 
-pub fit : (p : Puzzle) (g : List ℕ) (k : ℕ) → k ≡ refusal (sheetChecks p g) → k ≡ 0 → MarkSheetAsk (p .size) (length g) (length (p .rows)) (length (p .columns))
+pub fit : (u : Unit) (p : Puzzle) (g : List ℕ) (k : ℕ) → k ≡ refusal (sheetChecks u p g) → k ≡ 0 → MarkSheetAsk (p .size) (length g) (length (p .rows)) (length (p .columns))
 unfolding sheetChecks
-fit p g k q z =
+fit u p g k q z =
     let e = sym q ∙ z in
-    let a = accepted p (refusal-none-left (puzzleChecks p) (checkBuffer (p .size) (length g) ∷ []) e) in
-    let b = refusal-none 6 _ _ (refusal-none-right (puzzleChecks p) (checkBuffer (p .size) (length g) ∷ []) (puzzle-numbered p) e) in
+    let a = accepted u p (refusal-none-left (puzzleChecks u p) (checkBuffer (p .size) (length g) ∷ []) e) in
+    let b = refusal-none 6 _ _ (refusal-none-right (puzzleChecks u p) (checkBuffer (p .size) (length g) ∷ []) (puzzle-numbered u p) e) in
     record {
-      size = size-in (p .size) (a .size-fits);
+      size = a .size;
       cells-fit = eqb-true (length g) (p .size * p .size) (b .0);
       rows-long = a .rows-long;
       columns-long = a .columns-long;
@@ -77,16 +78,16 @@ module _ (n : ℕ) (rows columns g : List ℕ) where
 
 -- ---- the answer
 
-pub marked-refused : (p : Puzzle) (g : List ℕ) (k : ℕ) → k ≡ refusal (sheetChecks p g) → (k ≡ 0 → ⊥) → Refused k ≡ markSheet p g
+pub marked-refused : (u : Unit) (p : Puzzle) (g : List ℕ) (k : ℕ) → k ≡ refusal (sheetChecks u p g) → (k ≡ 0 → ⊥) → Refused k ≡ markSheet u p g
 unfolding markSheet
-marked-refused p g zero e z = absurd (z refl)
-marked-refused p g (suc k) e z = rw (← e)
+marked-refused u p g zero e z = absurd (z refl)
+marked-refused u p g (suc k) e z = rw (← e)
 
-module _ (p : Puzzle) (g : List ℕ) (k : ℕ) (d : k ≡ refusal (sheetChecks p g)) (e : k ≡ 0) (b : Bool) (s : b ≡ keeps p g) where
-  pub marked-right : b ≡ true → Right ≡ markSheet p g
+module _ (u : Unit) (p : Puzzle) (g : List ℕ) (k : ℕ) (d : k ≡ refusal (sheetChecks u p g)) (e : k ≡ 0) (b : Bool) (s : b ≡ keeps p g) where
+  pub marked-right : b ≡ true → Right ≡ markSheet u p g
   unfolding markSheet
   marked-right t = rw (sym d ∙ e, sym s ∙ t)
 
-  pub marked-wrong : b ≡ false → Wrong ≡ markSheet p g
+  pub marked-wrong : b ≡ false → Wrong ≡ markSheet u p g
   unfolding markSheet
   marked-wrong t = rw (sym d ∙ e, sym s ∙ t)

@@ -4,6 +4,7 @@ use mathlib.Core.Path.{_≡_, refl}
 use mathlib.Core.Bool.{true}
 use mathlib.Core.List.{List, [], _∷_, _++_, map}
 use Rattle.tally.specs.Tally.{span, sum, all, count, join}
+use Rattle.units.specs.Limits.{hall}
 use Rattle.rules.specs.Grid.{digits, lawful, untilBlack, inside, lineSum, meets, keepsLine, cell, row, column, line, lines, Puzzle, target, keeps}
 use Rattle.rules.specs.Check.{refusal, maxTarget, sheetChecks, sumsChecks}
 use Rattle.rules.specs.Sums.{targetSums}
@@ -43,18 +44,18 @@ abbrev withFirst : ℕ → List ℕ
 withFirst c = sheet (c ∷ 1 ∷ 255 ∷ 255 ∷ 1 ∷ 255 ∷ 2 ∷ 255 ∷ [])
 
 record SheetFacts : Type 0 where
-  key-right : markSheet puzzle key ≡ Right
+  key-right : markSheet hall puzzle key ≡ Right
   -- a repeated digit is wrong, in a row and in a column, though the sums are those of the key
-  reported-wrong : markSheet puzzle reported ≡ Wrong
-  reported-sums : targetSums 4 reported blank blank ≡ (0, rows, columns)
-  column-wrong : markSheet puzzle inColumn ≡ Wrong
-  column-sums : targetSums 4 inColumn blank blank ≡ (0, rows, columns)
+  reported-wrong : markSheet hall puzzle reported ≡ Wrong
+  reported-sums : targetSums hall 4 reported blank blank ≡ (0, rows, columns)
+  column-wrong : markSheet hall puzzle inColumn ≡ Wrong
+  column-sums : targetSums hall 4 inColumn blank blank ≡ (0, rows, columns)
   column-rows : all (λ r. lawful 4 (row 4 inColumn r)) (span 0 4) ≡ true
   -- an empty cell, a digit that size 4 does not have, any other byte, a third black: wrong, not refused
-  others-wrong : map (λ c. markSheet puzzle (withFirst c)) (0 ∷ 3 ∷ 254 ∷ 255 ∷ []) ≡ Wrong ∷ Wrong ∷ Wrong ∷ Wrong ∷ []
+  others-wrong : map (λ c. markSheet hall puzzle (withFirst c)) (0 ∷ 3 ∷ 254 ∷ 255 ∷ []) ≡ Wrong ∷ Wrong ∷ Wrong ∷ Wrong ∷ []
   -- another sum
-  sum-wrong : markSheet (record { size = 4; rows = rows; columns = 0 ∷ 0 ∷ 2 ∷ 0 ∷ [] }) key ≡ Wrong
-  short-refused : markSheet puzzle blank ≡ Refused 7
+  sum-wrong : markSheet hall (record { size = 4; rows = rows; columns = 0 ∷ 0 ∷ 2 ∷ 0 ∷ [] }) key ≡ Wrong
+  short-refused : markSheet hall puzzle blank ≡ Refused 7
 
 facts : SheetFacts
 unfolding

@@ -2,6 +2,7 @@
 use Prim.Native.Nat.{ℕ, zero, suc}
 use mathlib.Core.Bool.{Bool, true, false}
 use mathlib.Core.List.{List}
+use Rattle.units.specs.declared.Unit.{Unit}
 use Rattle.rules.specs.Grid.{Puzzle, keeps}
 use Rattle.rules.specs.Check.{refusal, sheetChecks}
 use Rattle.sheet_marking.specs.declared.Marked.{Marked}
@@ -13,6 +14,6 @@ markedAs (suc k) right = Refused (suc k)
 markedAs zero true = Right
 markedAs zero false = Wrong
 
--- The answer for a puzzle and a sheet of cells: right exactly when the cells keep the puzzle.
-unfoldable pub markSheet : Puzzle → List ℕ → Marked
-markSheet p cells = markedAs (refusal (sheetChecks p cells)) (keeps p cells)
+-- The answer in a unit for a puzzle and a sheet of cells: right exactly when the cells keep the puzzle.
+unfoldable pub markSheet : Unit → Puzzle → List ℕ → Marked
+markSheet u p cells = markedAs (refusal (sheetChecks u p cells)) (keeps p cells)

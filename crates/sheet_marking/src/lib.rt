@@ -2,6 +2,7 @@
 use puzzle::puzzle_refusal;
 use puzzle::wide;
 use target_sums::line_sum;
+use units::Unit;
 ghost use mathlib.Core.Path.{_≡_};
 ghost use Prim.Native.Nat.{_*_, _^_};
 ghost use lib.ListN.{length, getD};
@@ -138,10 +139,10 @@ fn lines_keep(cells: &[u8], step: usize, stride: usize, n: usize, targets: &[u8]
 }
 
 // The number that the input is refused by, or 0.
-fn sheet_refusal(n: usize, rows: &[u8], columns: &[u8], cells: &[u8]) -> u8
-    ensures { λ r. ⌜ r ≡ refusal (sheetChecks (puzzle n (now (rows .entry)) (now (columns .entry))) (now (cells .entry))) ⌝ }
+fn sheet_refusal(unit: Unit, n: usize, rows: &[u8], columns: &[u8], cells: &[u8]) -> u8
+    ensures { λ r. ⌜ r ≡ refusal (sheetChecks unit (puzzle n (now (rows .entry)) (now (columns .entry))) (now (cells .entry))) ⌝ }
 {
-    let k = puzzle_refusal(n, rows, columns);
+    let k = puzzle_refusal(unit, n, rows, columns);
     if k != 0 {
         return k;
     }
@@ -163,10 +164,10 @@ fn sheet_right(n: usize, rows: &[u8], columns: &[u8], cells: &[u8]) -> bool
 }
 
 // Right exactly when the cells keep the puzzle.
-pub fn mark_sheet(size: usize, rows: &[u8], columns: &[u8], cells: &[u8]) -> Marked
-    ensures { λ r. ⌜ r ≡ markSheet (puzzle size (now (rows .entry)) (now (columns .entry))) (now (cells .entry)) ⌝ }
+pub fn mark_sheet(unit: Unit, size: usize, rows: &[u8], columns: &[u8], cells: &[u8]) -> Marked
+    ensures { λ r. ⌜ r ≡ markSheet unit (puzzle size (now (rows .entry)) (now (columns .entry))) (now (cells .entry)) ⌝ }
 {
-    let k = sheet_refusal(size, rows, columns, cells);
+    let k = sheet_refusal(unit, size, rows, columns, cells);
     if k != 0 {
         return Marked::Refused(k);
     }

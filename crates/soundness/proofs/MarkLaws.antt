@@ -17,7 +17,7 @@ use Rattle.rules.specs.Number.{solves, number, Solution}
 use Rattle.rules.specs.Check.{refusal, named, checkMark}
 use Rattle.rules.specs.CheckParts.{markChecks}
 use Rattle.rules.proofs.GridLaws.{way-solution}
-use Rattle.rules.proofs.CheckLaws.{numbered, refusal-none, refusal-none-left, refusal-none-right}
+use Rattle.rules.proofs.CheckLaws.{lacks, refusal-none, refusal-none-left, refusal-none-right}
 use Rattle.table.specs.Table.{Table, firstBlack, fits, left, inRow, inColumn}
 use Rattle.table.specs.Steps.{struck, taken, marked, markedAll}
 use Rattle.line_laws.proofs.Half.{digit-in, first-in, second-in}
@@ -65,7 +65,7 @@ accepted n (x ∷ ms) e m (List·Memᴰ·head q) =
       column-in = ltb-true (markColumn x) n (and-right (ltb (markRow x) n) _ (b .0));
       value-in = named-in n (markValue x) (c .0);
     })
-accepted n (x ∷ ms) e m (List·Memᴰ·tail k) = accepted n ms (refusal-none-right (checkMark n x) (markChecks n ms) (unfold numbered in refl) e) m k
+accepted n (x ∷ ms) e m (List·Memᴰ·tail k) = accepted n ms (refusal-none-right (checkMark n x) (markChecks n ms) (unfold lacks in refl) e) m k
 
 -- ---- which grids marks leave
 

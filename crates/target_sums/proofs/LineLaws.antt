@@ -13,7 +13,7 @@ use Rattle.tally.specs.Tally.{all, count, join, span}
 use Rattle.rules.specs.Grid.{isBlack, inside, lineSum}
 use Rattle.rules.specs.Check.{Check, refusal, checkLine}
 use Rattle.rules.specs.CheckParts.{isEmpty}
-use Rattle.rules.proofs.CheckLaws.{numbered, refusal-skip, refusal-stop}
+use Rattle.rules.proofs.CheckLaws.{lacks, numbered, refusal-skip, refusal-stop}
 use Rattle.rules.proofs.StridedLaws.{map-next}
 use Rattle.rules.specs.Strided.{strided}
 use Rattle.rules.proofs.InsideLaws.{none-empty}
@@ -53,7 +53,7 @@ refusal-fits l e = go (eqb (count isBlack l) 2) (all (λ c. not (isEmpty c)) (in
 -- ---- line after line
 
 pub line-numbered : (l : List ℕ) → numbered (checkLine l) ≡ true
-unfolding numbered
+unfolding lacks
 line-numbered l = refl
 
 -- line i of those that start at 0, step, ..

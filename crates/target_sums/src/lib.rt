@@ -3,6 +3,7 @@
 use puzzle::size_fits;
 use puzzle::targets_fit;
 use puzzle::wide;
+use units::Unit;
 ghost use mathlib.Core.Path.{_≡_};
 ghost use Prim.Native.Nat.{_≤_};
 ghost use lib.ListN.{length, drop};
@@ -160,11 +161,14 @@ fn put_sums(cells: &[u8], step: usize, stride: usize, n: usize, out: &mut [u8])
 }
 
 // The number that the input is refused by, or 0.
-fn sums_refusal(n: usize, cells: &[u8], rows: usize, columns: usize) -> u8
-    ensures { λ r. ⌜ r ≡ refusal (sumsChecks n (now (cells .entry)) rows columns) ⌝ }
+fn sums_refusal(unit: Unit, n: usize, cells: &[u8], rows: usize, columns: usize) -> u8
+    ensures { λ r. ⌜ r ≡ refusal (sumsChecks unit n (now (cells .entry)) rows columns) ⌝ }
 {
     if !size_fits(n) {
         return 1;
+    }
+    if !unit.takes_size(n) {
+        return 18;
     }
     if cells.len() != n * n {
         return 7;
@@ -180,11 +184,17 @@ fn sums_refusal(n: usize, cells: &[u8], rows: usize, columns: usize) -> u8
 }
 
 // The target sums of the cells, rows then columns, written where nothing is refused.
-pub fn compute_targets(size: usize, cells: &[u8], rows: &mut [u8], columns: &mut [u8]) -> Summed
-    ensures { λ r. ⌜ SumsAnswered (targetSums size (now (cells .entry)) (now (rows .entry)) (now (columns .entry)))
+pub fn compute_targets(
+    unit: Unit,
+    size: usize,
+    cells: &[u8],
+    rows: &mut [u8],
+    columns: &mut [u8],
+) -> Summed
+    ensures { λ r. ⌜ SumsAnswered (targetSums unit size (now (cells .entry)) (now (rows .entry)) (now (columns .entry)))
         r (now (rows .exit)) (now (columns .exit)) ⌝ }
 {
-    let k = sums_refusal(size, cells, rows.len(), columns.len());
+    let k = sums_refusal(unit, size, cells, rows.len(), columns.len());
     if k != 0 {
         return Summed::Refused(k);
     }

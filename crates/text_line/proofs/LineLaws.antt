@@ -7,8 +7,10 @@ use native.Mathlib.Omega.{arith}
 use lib.ListN.{length, getD, take, drop, length-take, length-drop}
 use lib.Seq.{take-all}
 use borrow.Author.Tests.{eq-eqb, ne-eqb}
+use Rattle.units.specs.Limits.{hall}
 use Rattle.rules.specs.Check.{refusal, puzzleChecks}
 use Rattle.rules.specs.CheckParts.{sizeFits}
+use Rattle.rules.proofs.UnitLaws.{plainChecks, hall-puzzle}
 use Rattle.rules.specs.Number.{number, verdictOf}
 use Rattle.rules.specs.Grid.{puzzle}
 use Rattle.text_rules.specs.Fields.{sizeOf, puzzleFrom, numberChecks, numbers, lineChecks}
@@ -22,13 +24,15 @@ use Rattle.text_line.proofs.PuzzleTextLaws.{front-long}
 -- ---- the numbers
 
 -- where there are twice as many targets, the lengths of the rows and the columns fit
-checks-same : (ns : List ℕ) → length (drop 1 ns) ≡ 2 * getD ns 0 0 → refusal (numberChecks ns) ≡ refusal (puzzleChecks (puzzleFrom ns))
+checks-same : (ns : List ℕ) → length (drop 1 ns) ≡ 2 * getD ns 0 0 → refusal (numberChecks ns) ≡ refusal (puzzleChecks hall (puzzleFrom ns))
 unfolding refusal numberChecks puzzleFrom
 checks-same ns h =
     let n : ℕ = getD ns 0 0 in
     let r = sym (front-long n (drop 1 ns) (omega arith)) in
     let c : length (drop n (drop 1 ns)) ≡ n = length-drop n (drop 1 ns) ∙ omega arith in
-    rw (eq-eqb (length (drop 1 ns)) (2 * getD ns 0 0) h, eq-eqb (length (take (getD ns 0 0) (drop 1 ns))) (getD ns 0 0) r, eq-eqb (length (drop (getD ns 0 0) (drop 1 ns))) (getD ns 0 0) c)
+    let plain : refusal (numberChecks ns) ≡ refusal (plainChecks (puzzleFrom ns)) =
+    rw (eq-eqb (length (drop 1 ns)) (2 * getD ns 0 0) h, eq-eqb (length (take (getD ns 0 0) (drop 1 ns))) (getD ns 0 0) r, eq-eqb (length (drop (getD ns 0 0) (drop 1 ns))) (getD ns 0 0) c) in
+    plain ∙ sym (hall-puzzle (puzzleFrom ns))
 
 module _ {ns : List ℕ} {n : ℕ} (e : n ≡ getD ns 0 0) where
   refused-text : {r : ℕ} {out l : List ℕ} (k : ℕ) → refusal (numberChecks ns) ≡ suc k → Put (refusedWord ++ numberText (suc k)) r out l → NumbersText ns r out l

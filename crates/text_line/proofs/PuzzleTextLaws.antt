@@ -10,6 +10,7 @@ use borrow.Author.Tests.{eq-eqb, ne-eqb, le-leb}
 use Rattle.tally.specs.Tally.{all, join}
 use Rattle.tally.specs.Way.{Way, done, put}
 use Rattle.tally.proofs.TallyLaws.{span-in, and-both}
+use Rattle.units.specs.Limits.{hall}
 use Rattle.rules.specs.Grid.{digits, Puzzle, puzzle}
 use Rattle.rules.specs.Mark.{marksOf}
 use Rattle.rules.proofs.GridLaws.{solution-way}
@@ -61,27 +62,27 @@ text-same zero (suc zero) n g = refl
 text-same zero (suc (suc m)) n g = refl
 
 -- with no marks and cells of the size only the puzzle is checked
-only-puzzle : (p : Puzzle) (len : ℕ) → len ≡ p .size * p .size → refusal (solveChecks p [] len) ≡ refusal (puzzleChecks p)
+only-puzzle : (p : Puzzle) (len : ℕ) → len ≡ p .size * p .size → refusal (solveChecks hall p [] len) ≡ refusal (puzzleChecks hall p)
 unfolding refusal solveChecks countChecks join
 only-puzzle p len e = rw (eq-eqb len (p .size * p .size) e)
 
 module _ {n : ℕ} {ts : List ℕ} {room : ℕ} {answer : Solved} {cells cells′ : List ℕ} (a : SolveTargetsAsk n ts (length cells) room)
-    (s : (answer ≡ solveAnswer (puzzle n (take n ts) (take (length ts - n) (drop n ts))) (marksOf []) (length cells))
-    × SolveWritten (puzzle n (take n ts) (take (length ts - n) (drop n ts))) (marksOf []) cells cells′) (long : length cells′ ≡ length cells) where
+    (s : (answer ≡ solveAnswer hall (puzzle n (take n ts) (take (length ts - n) (drop n ts))) (marksOf []) (length cells))
+    × SolveWritten hall (puzzle n (take n ts) (take (length ts - n) (drop n ts))) (marksOf []) cells cells′) (long : length cells′ ≡ length cells) where
   abbrev p : Puzzle
   p = puzzle n (take n ts) (take (length ts - n) (drop n ts))
 
   same : p ≡ puzzle n (take n ts) (drop n ts)
   same = ap (puzzle n (take n ts)) (take-all (length ts - n) (drop n ts) (omega (arith, length-drop n ts)))
 
-  accepted : refusal (solveChecks p [] (length cells)) ≡ refusal (puzzleChecks p)
+  accepted : refusal (solveChecks hall p [] (length cells)) ≡ refusal (puzzleChecks hall p)
   accepted = only-puzzle p (length cells) (a .square)
 
-  is : answer ≡ solvedAs (refusal (puzzleChecks p)) (number p [])
+  is : answer ≡ solvedAs (refusal (puzzleChecks hall p)) (number p [])
   unfolding marksOf
   is = s .0 ∙ ap (λ k. solvedAs k (number p [])) accepted
 
-  solution : refusal (puzzleChecks p) ≡ 0 → 0 < number p [] → Solution p [] cells′
+  solution : refusal (puzzleChecks hall p) ≡ 0 → 0 < number p [] → Solution p [] cells′
   unfolding marksOf
   solution e h = s .1 .written (accepted ∙ e) h
 
@@ -91,14 +92,14 @@ module _ {n : ℕ} {ts : List ℕ} {room : ℕ} {answer : Solved} {cells cells�
       record {
         size = z .high;
         square = long ∙ a .square;
-        cells = λ e. let q = shows (refusal (puzzleChecks p)) (number p []) (sym (ap showsGrid is) ∙ e) in way-shown n (z .high) (solution-way (solution (q .0) (q .1)));
+        cells = λ e. let q = shows (refusal (puzzleChecks hall p)) (number p []) (sym (ap showsGrid is) ∙ e) in way-shown n (z .high) (solution-way (solution (q .0) (q .1)));
         fits = a .fits;
       }
 
   pub solve-text : {r : ℕ} {out l : List ℕ} → Put (solvedText answer n cells′) r out l → PuzzleText (puzzle n (take n ts) (drop n ts)) r out l
   solve-text {r} {out} {l} w =
-      let e : solvedText answer n cells′ ≡ answerText (refusal (puzzleChecks p)) (verdictOf (number p [])) n cells′ =
-      ap (λ x. solvedText x n cells′) is ∙ text-same (refusal (puzzleChecks p)) (number p []) n cells′ in
+      let e : solvedText answer n cells′ ≡ answerText (refusal (puzzleChecks hall p)) (verdictOf (number p [])) n cells′ =
+      ap (λ x. solvedText x n cells′) is ∙ text-same (refusal (puzzleChecks hall p)) (number p []) n cells′ in
       let t : PuzzleText p r out l = record { grid = cells′; solves = solution; put = subst (λ x. Put x r out l) e w } in
       subst (λ q. PuzzleText q r out l) same t
 

@@ -5,6 +5,7 @@ use mathlib.Core.Bool.{Bool, true, false}
 use mathlib.Core.List.{List, [], _++_}
 use lib.ListN.{length}
 use Rattle.tally.specs.Tally.{all}
+use Rattle.units.specs.Limits.{hall}
 use Rattle.rules.specs.Grid.{Puzzle}
 use Rattle.rules.specs.Check.{refusal, puzzleChecks}
 use Rattle.rules.specs.CheckParts.{sizeFits}
@@ -66,8 +67,8 @@ pub record TargetsAsk (n : ℕ) (targets : List ℕ) (room : ℕ) : Type 0 where
 -- A text that answers the puzzle stands at the front.
 pub record PuzzleText (p : Puzzle) (counted : ℕ) (out out′ : List ℕ) : Type 0 where
   pub grid : List ℕ
-  pub solves : refusal (puzzleChecks p) ≡ 0 → 0 < number p [] → Solution p [] grid
-  pub put : Put (answerText (refusal (puzzleChecks p)) (verdictOf (number p [])) (p .size) grid) counted out out′
+  pub solves : refusal (puzzleChecks hall p) ≡ 0 → 0 < number p [] → Solution p [] grid
+  pub put : Put (answerText (refusal (puzzleChecks hall p)) (verdictOf (number p [])) (p .size) grid) counted out out′
 
 -- At least one number, and room.
 pub record NumbersAsk (ns : List ℕ) (room : ℕ) : Type 0 where

@@ -7,6 +7,7 @@ use text_answer::write_refused;
 use text_answer::write_solved;
 use text_answer::write_text;
 use text_numbers::read_numbers;
+use units::Unit;
 ghost use lib.ListN.{length, take, drop};
 ghost use Rattle.text_answer.specs.Put.{Put};
 ghost use Rattle.rules.specs.Grid.{puzzle};
@@ -30,7 +31,14 @@ fn solve_targets(n: usize, targets: &[u8], cells: &mut [u8], out: &mut [u8]) -> 
     requires { ⌜ SolveTargetsAsk n (now targets) (length (now cells)) (length (now out)) ⌝ }
     ensures { λ r. ⌜ PuzzleText (puzzle n (take n (now (targets .entry))) (drop n (now (targets .entry)))) r (now (out .entry)) (now (out .exit)) ⌝ }
 {
-    let answer = solve(n, &targets[..n], &targets[n..], &targets[..0], cells);
+    let answer = solve(
+        Unit::HALL,
+        n,
+        &targets[..n],
+        &targets[n..],
+        &targets[..0],
+        cells,
+    );
     write_answer(answer, n, cells, out)
 }
 

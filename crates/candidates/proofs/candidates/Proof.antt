@@ -1,6 +1,7 @@
 -- `candidates::candidates` meets its contract. Assumes nothing.
 use mathlib.Core.Path.{sym, _∙_}
 use borrow.Author.Needs.{needs}
+use Rattle.engine.proofs.SolveLaws.{solve-asked}
 use Rattle.candidates.proofs.RemainingLaws.{table-refused, table-written, table-none}
 use Rattle.candidates.proofs.candidates.Statement.{statement}
 use Rattle.candidates.proofs.candidates.Tie as tie
@@ -12,7 +13,7 @@ returns : tie.Need-returns
 returns c = table-refused (c .before .solve-refusal .ensures) (c .if1 .taken)
 
 write-table-requires : tie.Need-write-table-requires
-write-table-requires c κs = record { accepted = sym (c .before .before .solve-refusal .ensures) ∙ c .before .if1 .left }
+write-table-requires c κs = solve-asked _ _ _ _ (sym (c .before .before .solve-refusal .ensures) ∙ c .before .if1 .left)
 
 same-length : tie.Need-same-length
 same-length c = search needs

@@ -5,7 +5,6 @@ use borrow.Author.Needs.{needs}
 use Rattle.invariants.specs.State.{Propagated}
 use Rattle.fresh.proofs.FillLaws.{blank-zeros}
 use Rattle.engine.proofs.CountLaws.{count-prepare}
-use Rattle.engine.proofs.SolveLaws.{solve-count, solve-room}
 use Rattle.candidates.proofs.RemainingLaws.{left-none, written-table, tabled-none, tabled-done}
 use Rattle.candidates.proofs.write_table.Statement.{statement}
 use Rattle.candidates.proofs.write_table.Tie as tie
@@ -17,7 +16,7 @@ slice-aggregate-prepare-2 : tie.Need-slice-aggregate-prepare-2
 slice-aggregate-prepare-2 c = search needs
 
 prepare-requires : tie.Need-prepare-requires
-prepare-requires c κs = count-prepare (solve-count (c .before .before .before .before .before .before .pre)) (search needs) blank-zeros
+prepare-requires c κs = count-prepare (c .before .before .before .before .before .before .pre .count) (search needs) blank-zeros
 
 returns : tie.Need-returns
 returns c = tabled-none (c .before .before .before .prepare .ensures .none (not-true _ (c .if1 .taken)))
@@ -35,7 +34,7 @@ slice-aggregate-write-candidates : tie.Need-slice-aggregate-write-candidates
 slice-aggregate-write-candidates c = search needs
 
 write-candidates-requires : tie.Need-write-candidates-requires
-write-candidates-requires c κs = (c .before .before .before .before .propagate .ensures .lagging (c .before .before .if2 .taken) .ready, solve-room (c .before .before .before .before .before .before .before .before .before .before .before .before .before .before .before .before .before .pre))
+write-candidates-requires c κs = (c .before .before .before .before .propagate .ensures .lagging (c .before .before .if2 .taken) .ready, c .before .before .before .before .before .before .before .before .before .before .before .before .before .before .before .before .before .pre .room)
 
 same-length : tie.Need-same-length
 same-length c = search needs

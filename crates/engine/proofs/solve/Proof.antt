@@ -1,7 +1,7 @@
 -- `engine::solve` meets its contract. Assumes nothing.
 use mathlib.Core.Path.{sym, _∙_}
 use borrow.Author.Needs.{needs}
-use Rattle.engine.proofs.SolveLaws.{solve-refused, solve-done}
+use Rattle.engine.proofs.SolveLaws.{solve-refused, solve-done, solve-asked}
 use Rattle.engine.proofs.solve.Statement.{statement}
 use Rattle.engine.proofs.solve.Tie as tie
 
@@ -12,7 +12,7 @@ returns : tie.Need-returns
 returns c = solve-refused (c .before .solve-refusal .ensures) (c .if1 .taken)
 
 solve-grids-requires : tie.Need-solve-grids-requires
-solve-grids-requires c κs = record { accepted = sym (c .before .before .solve-refusal .ensures) ∙ c .before .if1 .left }
+solve-grids-requires c κs = solve-asked _ _ _ _ (sym (c .before .before .solve-refusal .ensures) ∙ c .before .if1 .left)
 
 verdict-requires : tie.Need-verdict-requires
 verdict-requires c κs = search needs

@@ -3,7 +3,7 @@ use borrow.Author.Needs.{needs}
 use borrow.Author.Tests.{not-true, not-false}
 use Rattle.fresh.proofs.FillLaws.{blank-zeros}
 use Rattle.engine.proofs.CountLaws.{count-prepare}
-use Rattle.engine.proofs.SolveLaws.{solve-count, solve-none, solve-search, solve-found}
+use Rattle.engine.proofs.SolveLaws.{solve-none, solve-search, solve-found}
 use Rattle.engine.proofs.solve_grids.Statement.{statement}
 use Rattle.engine.proofs.solve_grids.Tie as tie
 
@@ -14,7 +14,7 @@ slice-aggregate-prepare-2 : tie.Need-slice-aggregate-prepare-2
 slice-aggregate-prepare-2 c = search needs
 
 prepare-requires : tie.Need-prepare-requires
-prepare-requires c κs = count-prepare (solve-count (c .before .before .before .before .before .before .pre)) (search needs) blank-zeros
+prepare-requires c κs = count-prepare (c .before .before .before .before .before .before .pre .count) (search needs) blank-zeros
 
 returns : tie.Need-returns
 returns c = solve-none (c .before .before .before .before .before .before .before .before .before .before .pre) (c .before .before .before .prepare .ensures) (not-true _ (c .if1 .taken))

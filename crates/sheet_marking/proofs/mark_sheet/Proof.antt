@@ -11,7 +11,7 @@ returns : tie.Need-returns
 returns c = search (needs, marked-refused)
 
 sheet-right-requires : tie.Need-sheet-right-requires
-sheet-right-requires c κs = fit _ _ _ (c .before .sheet-refusal .ensures) (c .if1 .left)
+sheet-right-requires c κs = fit _ _ _ _ (c .before .sheet-refusal .ensures) (c .if1 .left)
 
 returns-2 : tie.Need-returns-2
 returns-2 c = search (needs, marked-right)

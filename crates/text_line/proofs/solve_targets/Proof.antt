@@ -23,7 +23,7 @@ solve-requires : tie.Need-solve-requires
 solve-requires c κs = search needs
 
 write-answer-requires : tie.Need-write-answer-requires
-write-answer-requires c κs = solve-shown (c .before .before .before .before .before .before .before .before .before .before .before .before .pre) (c .before .before .before .before .solve .ensures) (c .before .before .before .before .solve .kept .1 .1 .1 .1 .0)
+write-answer-requires c κs = solve-shown (c .before .before .before .before .before .before .before .before .before .before .before .before .pre) (c .before .before .before .before .solve .ensures) (c .before .before .before .before .solve .kept .1 .1 .1 .1 .1 .0)
 
 same-length : tie.Need-same-length
 same-length c = search needs
@@ -32,7 +32,7 @@ same-length-2 : tie.Need-same-length-2
 same-length-2 c = search needs
 
 returns : tie.Need-returns
-returns c = solve-text (c .before .before .before .before .before .before .before .before .before .before .before .before .before .before .before .pre) (c .before .before .before .before .before .before .before .solve .ensures) (c .before .before .before .before .before .before .before .solve .kept .1 .1 .1 .1 .0) (c .before .before .write-answer .ensures)
+returns c = solve-text (c .before .before .before .before .before .before .before .before .before .before .before .before .before .before .before .pre) (c .before .before .before .before .before .before .before .solve .ensures) (c .before .before .before .before .before .before .before .solve .kept .1 .1 .1 .1 .1 .0) (c .before .before .write-answer .ensures)
 
 pub solve-targets-spec : {M : Type 1} → statement M
 solve-targets-spec =
