@@ -1,9 +1,11 @@
 /*
- * Doppelblock key engine: the functions of libdoppelblock.a.
+ * Doppelblock key engine: the functions of libdoppelblock.a and, those with
+ * `classroom` in their names, of libdoppelblock_classroom.a.
  *
- * Build the library with `rt staticlib doppelblock`; it is then
- * target/staticlib/libdoppelblock.a, for x86-64 Linux. It needs nothing beyond
- * the C library, holds no state between calls and may be called from any thread.
+ * Build them with `rt staticlib doppelblock` and `rt staticlib
+ * doppelblock_classroom`; they are then in target/staticlib, for x86-64 Linux.
+ * Link one or both. They need nothing beyond the C library, hold no state
+ * between calls and may be called from any thread.
  * Count and solve call themselves; a thread with a stack of 2 MiB has room.
  *
  * Slices. A pointer and the length after it are one slice of bytes. The pointer
@@ -22,10 +24,17 @@
  * 1 rejects it), row 4, column 4, value 4, spare 3 (zero). Rows and columns count
  * from 0. A value is a digit from 1 to size - 2 or one of the four blacks below.
  * The list may be empty, repeat a mark and contradict itself. A byte left over
- * at its end is half a mark and is refused by 4.
+ * at its end is half a mark and is refused by 4 in its turn.
+ *
+ * Units. There are two: the hall takes sizes up to 9 and any list of marks, the
+ * classrooms take sizes up to 6 and lists of at most 40 marks, where half a mark
+ * counts as a mark. Each function is there once for each; those of the classrooms
+ * have `classroom_` behind `doppelblock_`. Within the classrooms' limits both give
+ * the same answers and leave the same bytes.
  *
  * Refusals. The first fault in the order given at each function decides the
- * number, and no byte of any slice changes.
+ * number, and no byte of any slice changes. 18 and 19 are about the unit's limits;
+ * in the hall they are never due.
  */
 #ifndef DOPPELBLOCK_H
 #define DOPPELBLOCK_H
@@ -82,6 +91,10 @@ enum {
     /* The numbers between the two black cells of a line add up to more than
        255. */
     DOPPELBLOCK_REFUSED_SUM = 10,
+    /* The size is 2 to 9, but above the unit's limit. Classrooms only. */
+    DOPPELBLOCK_REFUSED_UNIT_SIZE = 18,
+    /* The list of marks is longer than the unit's limit. Classrooms only. */
+    DOPPELBLOCK_REFUSED_UNIT_LIST = 19,
     /* The sheet does not keep the rules of the puzzle. */
     DOPPELBLOCK_SHEET_WRONG = 100,
     /* It does: every digit once in each line, two blacks, all sums. */
@@ -102,8 +115,9 @@ enum {
  * each column into `columns`; 0 where the blacks touch. Cells that do not stand
  * between blacks are not looked at further.
  *
- * Returns DOPPELBLOCK_DONE or a refusal, checked in this order: 1, 7, 2, then for
- * each row from the first and each column from the first 8, 9, 10.
+ * Returns DOPPELBLOCK_DONE or a refusal, checked in this order: 1, 18 (never due
+ * in the hall), 7, 2, then for each row from the first and each column from the
+ * first 8, 9, 10.
  */
 uint8_t doppelblock_target_sums(size_t size,
                                 const uint8_t *cells, size_t cells_len,
@@ -120,7 +134,7 @@ uint8_t doppelblock_target_sums(size_t size,
  * writes is right.
  *
  * Returns DOPPELBLOCK_SHEET_RIGHT, DOPPELBLOCK_SHEET_WRONG or a refusal, checked
- * in this order: 1, 2, 3, 7. Writes nothing.
+ * in this order: 1, 18 (never due in the hall), 2, 3, 7. Writes nothing.
  */
 uint8_t doppelblock_mark_sheet(size_t size,
                                const uint8_t *rows, size_t rows_len,
@@ -134,8 +148,9 @@ uint8_t doppelblock_mark_sheet(size_t size,
  *
  * The search may take long on a puzzle of size 7 or more without marks.
  *
- * Returns DOPPELBLOCK_DONE or a refusal, checked in this order: 1, 2, 3, then 4,
- * 5, 6 mark by mark. Where it refuses, `count` stays as it was.
+ * Returns DOPPELBLOCK_DONE or a refusal, checked in this order: 1, 18, 2, 3, 19
+ * (18 and 19 never due in the hall), then 4, 5, 6 mark by mark. Where it refuses,
+ * `count` stays as it was.
  */
 uint8_t doppelblock_count(size_t size,
                           const uint8_t *rows, size_t rows_len,
@@ -148,8 +163,8 @@ uint8_t doppelblock_count(size_t size,
  * the first that the search finds is written into `cells`.
  *
  * Returns DOPPELBLOCK_UNSOLVABLE, DOPPELBLOCK_UNIQUE, DOPPELBLOCK_MULTIPLE or a
- * refusal, checked in this order: 1, 2, 3, then 4, 5, 6 mark by mark, then 7.
- * Only UNIQUE and MULTIPLE write.
+ * refusal, checked in this order: 1, 18, 2, 3, 19 (18 and 19 never due in the
+ * hall), then 4, 5, 6 mark by mark, then 7. Only UNIQUE and MULTIPLE write.
  */
 uint8_t doppelblock_solve(size_t size,
                           const uint8_t *rows, size_t rows_len,
@@ -165,15 +180,68 @@ uint8_t doppelblock_solve(size_t size,
  * so it is 2 * size * size.
  *
  * Returns DOPPELBLOCK_DONE, DOPPELBLOCK_CONTRADICTED or a refusal, checked in
- * this order: 1, 2, 3, then 4, 5, 6 mark by mark, then 7. Only DONE writes, and
- * then each cell has a candidate. A table can be written although no grid is
- * left.
+ * this order: 1, 18, 2, 3, 19 (18 and 19 never due in the hall), then 4, 5, 6
+ * mark by mark, then 7. Only DONE writes, and then each cell has a candidate. A
+ * table can be written although no grid is left.
  */
 uint8_t doppelblock_candidates(size_t size,
                                const uint8_t *rows, size_t rows_len,
                                const uint8_t *columns, size_t columns_len,
                                const uint8_t *marks, size_t marks_len,
                                uint8_t *table, size_t table_len);
+
+/*
+ * The greatest size that the hall takes: 9.
+ */
+size_t doppelblock_size_limit(void);
+
+/*
+ * The greatest number of marks in a list that the hall takes. It has no such
+ * limit, so this is SIZE_MAX, which no list reaches.
+ */
+size_t doppelblock_list_limit(void);
+
+/*
+ * The calls of the classrooms: as the functions of the same name without
+ * `classroom`, with the classrooms' limits.
+ */
+uint8_t doppelblock_classroom_target_sums(size_t size,
+                                          const uint8_t *cells, size_t cells_len,
+                                          uint8_t *rows, size_t rows_len,
+                                          uint8_t *columns, size_t columns_len);
+
+uint8_t doppelblock_classroom_mark_sheet(size_t size,
+                                         const uint8_t *rows, size_t rows_len,
+                                         const uint8_t *columns, size_t columns_len,
+                                         const uint8_t *cells, size_t cells_len);
+
+uint8_t doppelblock_classroom_count(size_t size,
+                                    const uint8_t *rows, size_t rows_len,
+                                    const uint8_t *columns, size_t columns_len,
+                                    const uint8_t *marks, size_t marks_len,
+                                    uint64_t cap, uint64_t *count);
+
+uint8_t doppelblock_classroom_solve(size_t size,
+                                    const uint8_t *rows, size_t rows_len,
+                                    const uint8_t *columns, size_t columns_len,
+                                    const uint8_t *marks, size_t marks_len,
+                                    uint8_t *cells, size_t cells_len);
+
+uint8_t doppelblock_classroom_candidates(size_t size,
+                                         const uint8_t *rows, size_t rows_len,
+                                         const uint8_t *columns, size_t columns_len,
+                                         const uint8_t *marks, size_t marks_len,
+                                         uint8_t *table, size_t table_len);
+
+/*
+ * The greatest size that a classroom takes: 6.
+ */
+size_t doppelblock_classroom_size_limit(void);
+
+/*
+ * The greatest number of marks in a list that a classroom takes: 40.
+ */
+size_t doppelblock_classroom_list_limit(void);
 
 #ifdef __cplusplus
 }

@@ -1,5 +1,6 @@
-/* Target sums, marking, counting and solving from C. It prints the same lines as
-   the Rust example and exits with 1 if the engine answers anything unexpected. */
+/* Target sums, marking, counting, solving and a classroom's limits from C. It
+   prints the same lines as the Rust example and exits with 1 if the engine
+   answers anything unexpected. */
 #include "doppelblock.h"
 
 #include <inttypes.h>
@@ -95,10 +96,31 @@ static void counting_and_solving(void)
     print_grid(cells);
 }
 
+/* A classroom takes smaller sizes than the hall, and shorter lists of marks. */
+static void a_classroom(void)
+{
+    const uint8_t rows[7] = {8, 2, 15, 1, 0, 0, 3};
+    const uint8_t columns[7] = {6, 10, 0, 4, 8, 0, 7};
+    size_t size_limit = doppelblock_classroom_size_limit();
+    size_t list_limit = doppelblock_classroom_list_limit();
+    uint8_t cells[49];
+
+    printf("a classroom takes sizes up to %zu and lists of up to %zu marks\n",
+           size_limit, list_limit);
+
+    /* Without marks, any address will do. */
+    uint8_t answer = doppelblock_classroom_solve(7, rows, 7, columns, 7, rows, 0,
+                                                 cells, 49);
+    expect("size 7 in a classroom", answer, DOPPELBLOCK_REFUSED_UNIT_SIZE);
+    printf("a puzzle of size 7 is refused there with %d: the limit is %zu\n",
+           answer, size_limit);
+}
+
 int main(void)
 {
     sums_and_marking();
     a_repeated_digit();
     counting_and_solving();
+    a_classroom();
     return 0;
 }

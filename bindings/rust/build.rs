@@ -1,22 +1,25 @@
-//! Links libdoppelblock.a, which the engine's own tool writes.
+//! Links the libraries of the hall and of the classrooms, which the engine's own tool
+//! writes.
 
 use std::path::{Path, PathBuf};
 use std::{env, process};
 
-const LIBRARY: &str = "libdoppelblock.a";
+const LIBRARIES: [&str; 2] = ["doppelblock", "doppelblock_classroom"];
 const FOLDER: &str = "DOPPELBLOCK_LIB_DIR";
 
 fn main() {
     let folder = folder();
-    let library = folder.join(LIBRARY);
     println!("cargo::rerun-if-env-changed={FOLDER}");
-    println!("cargo::rerun-if-changed={}", library.display());
     println!("cargo::rerun-if-changed=build.rs");
-    if !library.is_file() {
-        refuse(&library);
-    }
     println!("cargo::rustc-link-search=native={}", folder.display());
-    println!("cargo::rustc-link-lib=static=doppelblock");
+    for name in LIBRARIES {
+        let library = folder.join(format!("lib{name}.a"));
+        println!("cargo::rerun-if-changed={}", library.display());
+        if !library.is_file() {
+            refuse(name, &library);
+        }
+        println!("cargo::rustc-link-lib=static={name}");
+    }
 }
 
 /// The folder named by the environment, else the one that the tool writes to.
@@ -28,9 +31,9 @@ fn folder() -> PathBuf {
     }
 }
 
-fn refuse(library: &Path) -> ! {
+fn refuse(name: &str, library: &Path) -> ! {
     println!(
-        "cargo::error=the engine's library is not at {}: run `rt staticlib doppelblock` first, \
+        "cargo::error=the engine's library is not at {}: run `rt staticlib {name}` first, \
          or name its folder in {FOLDER} (as an absolute path)",
         library.display()
     );

@@ -1,14 +1,16 @@
-//! Target sums, marking, counting and solving from Rust. It prints the same lines
-//! as the C example.
+//! Target sums, marking, counting, solving and a classroom's limits from Rust. It
+//! prints the same lines as the C example.
 
 use doppelblock::{
-    BLACK as B, EMPTY, Mark, Refusal, Sheet, Verdict, count, mark_sheet, solve, target_sums,
+    BLACK as B, EMPTY, Mark, Refusal, Sheet, Unit, Verdict, count, mark_sheet, solve, target_sums,
 };
 
 pub fn main() -> Result<(), Refusal> {
     sums_and_marking()?;
     a_repeated_digit()?;
-    counting_and_solving()
+    counting_and_solving()?;
+    a_classroom();
+    Ok(())
 }
 
 fn sums_and_marking() -> Result<(), Refusal> {
@@ -51,6 +53,21 @@ fn counting_and_solving() -> Result<(), Refusal> {
     assert_eq!(verdict, Verdict::Unique);
     println!("one without a 1 in its first cell: {}", drawn(&cells));
     Ok(())
+}
+
+/// A classroom takes smaller sizes than the hall, and shorter lists of marks.
+fn a_classroom() {
+    let (rows, columns) = ([8, 2, 15, 1, 0, 0, 3], [6, 10, 0, 4, 8, 0, 7]);
+    let unit = Unit::Classroom;
+    let size_limit = unit.size_limit();
+    let list_limit = unit.list_limit().expect("a classroom has one");
+    println!("a classroom takes sizes up to {size_limit} and lists of up to {list_limit} marks");
+
+    let mut cells = [EMPTY; 49];
+    let refusal = unit.solve(7, &rows, &columns, &[], &mut cells).unwrap_err();
+    assert_eq!(refusal, Refusal::SizeLimit(6));
+    let number = refusal.number();
+    println!("a puzzle of size 7 is refused there with {number}: the limit is {size_limit}");
 }
 
 fn listed(sums: &[u8]) -> String {

@@ -34,6 +34,26 @@
 //!
 //! The calls that search call themselves inside the engine; a thread with a
 //! stack of 2 MiB, the default of `std::thread`, has room.
+//!
+//! # Units
+//!
+//! A [`Unit`] is who asks: the hall, which takes sizes up to 9 and any list of
+//! marks, or a classroom, which takes sizes up to 6 and lists of at most 40 marks.
+//! Each call is a method of it. The functions of this crate are the hall's calls.
+//!
+//! ```
+//! use doppelblock::{Mark, Refusal, Unit};
+//!
+//! let (rows, columns) = ([8, 2, 15, 1, 0, 0, 3], [6, 10, 0, 4, 8, 0, 7]);
+//! let count = |unit: Unit| unit.count(7, &rows, &columns, &[], 100);
+//! assert_eq!(count(Unit::Classroom), Err(Refusal::SizeLimit(6)));
+//! assert_eq!(count(Unit::Hall), Ok(1));
+//!
+//! let marks = Mark::list(&[Mark::reject(0, 0, 1); 41]);
+//! let count = |unit: Unit| unit.count(3, &[0, 1, 0], &[0, 1, 0], &marks, 100);
+//! assert_eq!(count(Unit::Classroom), Err(Refusal::ListLimit(40)));
+//! assert_eq!(count(Unit::Hall), Ok(1));
+//! ```
 
 #![deny(unsafe_code)]
 #![warn(missing_docs)]
@@ -41,9 +61,11 @@
 mod ffi;
 mod mark;
 mod refusal;
+mod unit;
 
 pub use mark::{LEFT_BLACK, LOWER_BLACK, Mark, RIGHT_BLACK, UPPER_BLACK};
 pub use refusal::Refusal;
+pub use unit::Unit;
 
 /// Cell byte of a cell that holds nothing.
 pub const EMPTY: u8 = 0;
@@ -80,59 +102,40 @@ pub enum Candidates {
     Contradicted,
 }
 
-/// Writes the sum between the two black cells of each row into `rows` and of
-/// each column into `columns`.
+/// [`Unit::target_sums`] in the hall.
 ///
 /// # Errors
 ///
-/// In this order: [`Refusal::Size`], [`Refusal::CellsLength`],
-/// [`Refusal::TargetLengths`], then for each row and each column
-/// [`Refusal::Blacks`], [`Refusal::EmptyCell`], [`Refusal::Sum`].
+/// Those of [`Unit::target_sums`], without [`Refusal::SizeLimit`].
 pub fn target_sums(
     size: usize,
     cells: &[u8],
     rows: &mut [u8],
     columns: &mut [u8],
 ) -> Result<(), Refusal> {
-    match ffi::target_sums(size, cells, rows, columns) {
-        0 => Ok(()),
-        number => Err(refused(number)),
-    }
+    Unit::Hall.target_sums(size, cells, rows, columns)
 }
 
-/// Marks a sheet: `cells` against the puzzle with these targets. It is right
-/// exactly when it keeps the puzzle rules, every digit once in each line, two
-/// blacks, all sums. A cell may be any byte: what is neither black nor a digit of
-/// this size makes the sheet wrong.
-///
-/// If the puzzle is unique without marks, only the grid that [`solve`] writes is
-/// right.
+/// [`Unit::mark_sheet`] in the hall.
 ///
 /// # Errors
 ///
-/// In this order: [`Refusal::Size`], [`Refusal::TargetLengths`],
-/// [`Refusal::Target`], [`Refusal::CellsLength`].
+/// Those of [`Unit::mark_sheet`], without [`Refusal::SizeLimit`].
 pub fn mark_sheet(
     size: usize,
     rows: &[u8],
     columns: &[u8],
     cells: &[u8],
 ) -> Result<Sheet, Refusal> {
-    match ffi::mark_sheet(size, rows, columns, cells) {
-        100 => Ok(Sheet::Wrong),
-        101 => Ok(Sheet::Right),
-        number => Err(refused(number)),
-    }
+    Unit::Hall.mark_sheet(size, rows, columns, cells)
 }
 
-/// The number of grids that keep the puzzle and every mark, or `cap` if there are
-/// more. On a puzzle of size 7 or more without marks the search may take long.
+/// [`Unit::count`] in the hall.
 ///
 /// # Errors
 ///
-/// In this order: [`Refusal::Size`], [`Refusal::TargetLengths`],
-/// [`Refusal::Target`], then for each mark [`Refusal::MarkSpare`],
-/// [`Refusal::MarkPlace`], [`Refusal::MarkValue`].
+/// Those of [`Unit::count`], without [`Refusal::SizeLimit`] and
+/// [`Refusal::ListLimit`].
 pub fn count(
     size: usize,
     rows: &[u8],
@@ -140,13 +143,10 @@ pub fn count(
     marks: &[u8],
     cap: u64,
 ) -> Result<u64, Refusal> {
-    let mut number = 0;
-    count_into(size, rows, columns, marks, cap, &mut number)?;
-    Ok(number)
+    Unit::Hall.count(size, rows, columns, marks, cap)
 }
 
-/// As [`count`], with the number written into `number`, which stays as it was
-/// where the call refuses.
+/// [`Unit::count_into`] in the hall.
 ///
 /// # Errors
 ///
@@ -159,14 +159,10 @@ pub fn count_into(
     cap: u64,
     number: &mut u64,
 ) -> Result<(), Refusal> {
-    match ffi::count(size, rows, columns, marks, cap, number) {
-        0 => Ok(()),
-        number => Err(refused(number)),
-    }
+    Unit::Hall.count_into(size, rows, columns, marks, cap, number)
 }
 
-/// Whether no grid, one or more keep the puzzle and every mark. If there is one,
-/// the first that the search finds is written into `cells`.
+/// [`Unit::solve`] in the hall.
 ///
 /// # Errors
 ///
@@ -178,23 +174,14 @@ pub fn solve(
     marks: &[u8],
     cells: &mut [u8],
 ) -> Result<Verdict, Refusal> {
-    match ffi::solve(size, rows, columns, marks, cells) {
-        100 => Ok(Verdict::Unsolvable),
-        101 => Ok(Verdict::Unique),
-        102 => Ok(Verdict::Multiple),
-        number => Err(refused(number)),
-    }
+    Unit::Hall.solve(size, rows, columns, marks, cells)
 }
 
-/// Writes into `table` what each cell can still be after the marks and one
-/// propagation: two bytes for each cell, row by row, the more significant first.
-/// Digit d is bit d of these 16; the left, right, upper and lower black are the
-/// bits size - 1 to size + 2. In a written table each cell has a candidate.
+/// [`Unit::candidates`] in the hall.
 ///
 /// # Errors
 ///
-/// Those of [`count`], then [`Refusal::CellsLength`] if there are not exactly
-/// two bytes for each cell.
+/// Those of [`count`], then [`Refusal::CellsLength`].
 pub fn candidates(
     size: usize,
     rows: &[u8],
@@ -202,16 +189,5 @@ pub fn candidates(
     marks: &[u8],
     table: &mut [u8],
 ) -> Result<Candidates, Refusal> {
-    match ffi::candidates(size, rows, columns, marks, table) {
-        0 => Ok(Candidates::Written),
-        100 => Ok(Candidates::Contradicted),
-        number => Err(refused(number)),
-    }
-}
-
-/// An unknown number means that library and bindings are of different versions.
-fn refused(number: u8) -> Refusal {
-    Refusal::from_number(number).unwrap_or_else(|| {
-        panic!("libdoppelblock.a answered {number}, which these bindings do not know")
-    })
+    Unit::Hall.candidates(size, rows, columns, marks, table)
 }

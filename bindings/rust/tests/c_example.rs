@@ -1,5 +1,5 @@
 //! The C example compiles without a warning against the header and the linked
-//! library, and prints what it should.
+//! libraries, and prints what it should.
 
 use std::env;
 use std::path::{Path, PathBuf};
@@ -9,10 +9,10 @@ fn bindings() -> PathBuf {
     Path::new(env!("CARGO_MANIFEST_DIR")).join("..")
 }
 
-fn library() -> PathBuf {
-    option_env!("DOPPELBLOCK_LIB_DIR")
-        .map_or_else(|| bindings().join("../target/staticlib"), PathBuf::from)
-        .join("libdoppelblock.a")
+fn libraries() -> [PathBuf; 2] {
+    let folder = option_env!("DOPPELBLOCK_LIB_DIR")
+        .map_or_else(|| bindings().join("../target/staticlib"), PathBuf::from);
+    ["libdoppelblock.a", "libdoppelblock_classroom.a"].map(|library| folder.join(library))
 }
 
 #[test]
@@ -29,7 +29,7 @@ fn compiles_and_prints_the_expected_lines() {
         ])
         .arg(&program)
         .arg(bindings().join("c/example.c"))
-        .arg(library())
+        .args(libraries())
         .status()
         .expect("a C compiler is at hand as `cc`");
     assert!(compiled.success(), "the C example does not compile");

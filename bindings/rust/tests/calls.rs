@@ -2,7 +2,7 @@
 
 use doppelblock::{
     BLACK as B, Candidates, LEFT_BLACK, LOWER_BLACK, Mark, RIGHT_BLACK, Refusal, Sheet,
-    UPPER_BLACK, Verdict, candidates, count, count_into, mark_sheet, solve, target_sums,
+    UPPER_BLACK, Unit, Verdict, candidates, count, count_into, mark_sheet, solve, target_sums,
 };
 
 #[path = "../examples/puzzle.rs"]
@@ -216,14 +216,217 @@ fn a_mark_has_no_room_for_row_16() {
 
 #[test]
 fn numbers_and_refusals_belong_together() {
-    for refusal in Refusal::ALL {
-        assert_eq!(Refusal::from_number(refusal.number()), Some(refusal));
-        assert!(
-            refusal
-                .to_string()
-                .starts_with(&format!("refused ({})", refusal.number()))
-        );
+    for unit in [Unit::Hall, Unit::Classroom] {
+        for refusal in Refusal::ALL {
+            assert_eq!(Refusal::from_number(refusal.number(), unit), Some(refusal));
+            assert!(
+                refusal
+                    .to_string()
+                    .starts_with(&format!("refused ({})", refusal.number()))
+            );
+        }
+        assert_eq!(Refusal::from_number(0, unit), None);
+        assert_eq!(Refusal::from_number(100, unit), None);
     }
-    assert_eq!(Refusal::from_number(0), None);
-    assert_eq!(Refusal::from_number(100), None);
+}
+
+#[test]
+fn limits_belong_to_their_unit() {
+    let limits = |unit: Unit| (unit.size_limit(), unit.list_limit());
+    assert_eq!(limits(Unit::Hall), (9, None));
+    assert_eq!(limits(Unit::Classroom), (6, Some(40)));
+
+    let of_limits = |unit| [18, 19].map(|number| Refusal::from_number(number, unit));
+    let (size, list) = (Refusal::SizeLimit(6), Refusal::ListLimit(40));
+    assert_eq!(of_limits(Unit::Hall), [None, None]);
+    assert_eq!(of_limits(Unit::Classroom), [Some(size), Some(list)]);
+    assert_eq!([size, list].map(Refusal::number), [18, 19]);
+}
+
+#[test]
+fn texts_name_the_limit() {
+    assert_eq!(
+        Refusal::SizeLimit(6).to_string(),
+        "refused (18): the size is above the limit of this unit, which is 6"
+    );
+    assert_eq!(
+        Refusal::ListLimit(40).to_string(),
+        "refused (19): the list has more marks than the limit of this unit, which is 40"
+    );
+}
+
+/// What the calls write into.
+#[derive(Debug, PartialEq)]
+struct Buffers {
+    rows: Vec<u8>,
+    columns: Vec<u8>,
+    number: u64,
+    cells: Vec<u8>,
+    table: Vec<u8>,
+}
+
+impl Buffers {
+    /// Filled with what is written nowhere below; 99 is above every target.
+    fn new(size: usize) -> Buffers {
+        Buffers {
+            rows: vec![99; size],
+            columns: vec![99; size],
+            number: 77,
+            cells: vec![99; size * size],
+            table: vec![99; 2 * size * size],
+        }
+    }
+}
+
+/// What the calls answer.
+#[derive(Debug, PartialEq)]
+struct Answers {
+    sums: Result<(), Refusal>,
+    sheet: Result<Sheet, Refusal>,
+    count: Result<(), Refusal>,
+    solve: Result<Verdict, Refusal>,
+    candidates: Result<Candidates, Refusal>,
+}
+
+impl Answers {
+    /// Each call once: the sums of the grid, then the puzzle of these sums.
+    fn of(unit: Unit, size: usize, grid: &[u8], marks: &[u8], left: &mut Buffers) -> Answers {
+        let sums = unit.target_sums(size, grid, &mut left.rows, &mut left.columns);
+        let (rows, columns) = (&left.rows, &left.columns);
+        Answers {
+            sums,
+            sheet: unit.mark_sheet(size, rows, columns, grid),
+            count: unit.count_into(size, rows, columns, marks, 5, &mut left.number),
+            solve: unit.solve(size, rows, columns, marks, &mut left.cells),
+            candidates: unit.candidates(size, rows, columns, marks, &mut left.table),
+        }
+    }
+
+    /// The refusal of each call, if it refused.
+    fn refusals(&self) -> [Option<Refusal>; 5] {
+        [
+            self.sums.err(),
+            self.sheet.err(),
+            self.count.err(),
+            self.solve.err(),
+            self.candidates.err(),
+        ]
+    }
+}
+
+/// A grid that keeps the rules: each row is the row above, shifted by one cell.
+fn shifted(size: usize) -> Vec<u8> {
+    let value = |place: usize| (place / size + place % size) % size + 1;
+    let cell = |value: usize| if value + 2 > size { B } else { value as u8 };
+    (0..size * size).map(|place| cell(value(place))).collect()
+}
+
+#[test]
+fn both_units_give_the_same_within_the_limits() {
+    let marks = [
+        vec![],
+        vec![0],
+        vec![0x7F, 0xF8],
+        Mark::list(&[Mark::take(0, 0, 7)]),
+        Mark::list(&[Mark::take(0, 0, LEFT_BLACK)]),
+        Mark::list(&[Mark::reject(1, 1, UPPER_BLACK); 40]),
+    ];
+    for size in [0, 1, 2, 3, 4, 5, 6, 10] {
+        for grid in [shifted(size), vec![1; size * size], vec![]] {
+            for marks in &marks {
+                let asked = |unit| {
+                    let mut left = Buffers::new(size);
+                    (Answers::of(unit, size, &grid, marks, &mut left), left)
+                };
+                assert_eq!(asked(Unit::Hall), asked(Unit::Classroom));
+            }
+        }
+    }
+}
+
+#[test]
+fn a_classroom_takes_sizes_up_to_6() {
+    for size in 0..=11 {
+        let refusal = match size {
+            2..=6 => None,
+            7..=9 => Some(Refusal::SizeLimit(6)),
+            _ => Some(Refusal::Size),
+        };
+        let mut left = Buffers::new(size);
+        let answers = Answers::of(Unit::Classroom, size, &shifted(size), &[], &mut left);
+        assert_eq!(answers.refusals(), [refusal; 5], "size {size}");
+        assert_eq!(left == Buffers::new(size), refusal.is_some(), "size {size}");
+    }
+}
+
+#[test]
+fn the_hall_takes_sizes_up_to_9() {
+    for size in 7..=9 {
+        let (grid, mut rows, mut columns) = (shifted(size), vec![99; size], vec![99; size]);
+        assert_eq!(target_sums(size, &grid, &mut rows, &mut columns), Ok(()));
+        assert_eq!(mark_sheet(size, &rows, &columns, &grid), Ok(Sheet::Right));
+    }
+}
+
+/// Half a mark at the end of a list counts as a mark.
+#[test]
+fn a_classroom_takes_lists_of_up_to_40_marks() {
+    let marks = Mark::list(&[Mark::reject(0, 0, 1); 41]);
+    let asked = |unit, bytes: usize| {
+        let mut left = Buffers::new(3);
+        let answers = Answers::of(unit, 3, &GOOD, &marks[..bytes], &mut left);
+        (answers.refusals(), left)
+    };
+    for (bytes, hall, classroom) in [
+        (80, None, None),
+        (81, Some(Refusal::MarkSpare), Some(Refusal::ListLimit(40))),
+        (82, None, Some(Refusal::ListLimit(40))),
+    ] {
+        for (unit, refusal) in [(Unit::Hall, hall), (Unit::Classroom, classroom)] {
+            let (refusals, left) = asked(unit, bytes);
+            assert_eq!(refusals, [None, None, refusal, refusal, refusal]);
+            // Only the sums are written where the list is refused.
+            let sums = Buffers {
+                rows: vec![1, 0, 0],
+                columns: vec![1, 0, 0],
+                ..Buffers::new(3)
+            };
+            assert_eq!(left == sums, refusal.is_some(), "{unit:?}, {bytes} bytes");
+        }
+    }
+}
+
+#[test]
+fn the_size_limit_is_asked_after_1_and_before_2() {
+    for (size, sums, puzzle) in [
+        (10, Refusal::Size, Refusal::Size),
+        (7, Refusal::SizeLimit(6), Refusal::SizeLimit(6)),
+        (6, Refusal::CellsLength, Refusal::TargetLengths),
+    ] {
+        // Lengths, targets and marks are faulty for each of these sizes.
+        let mut left = Buffers::new(1);
+        let answers = Answers::of(Unit::Classroom, size, &[], &[0xFF; 82], &mut left);
+        let expected = [sums, puzzle, puzzle, puzzle, puzzle].map(Some);
+        assert_eq!(answers.refusals(), expected, "size {size}");
+        assert_eq!(left, Buffers::new(1));
+    }
+}
+
+#[test]
+fn the_list_limit_is_asked_after_3_and_before_any_mark() {
+    // Each mark is faulty, and both buffers have a wrong length.
+    let refused = |rows: &[u8], bytes: usize| {
+        let (unit, columns, marks) = (Unit::Classroom, [0; 3], vec![0xFF; bytes]);
+        let (mut number, mut cells, mut table) = (77, [9; 10], [9; 17]);
+        let counted = unit.count_into(3, rows, &columns, &marks, 5, &mut number);
+        let solved = unit.solve(3, rows, &columns, &marks, &mut cells);
+        let left = unit.candidates(3, rows, &columns, &marks, &mut table);
+        assert_eq!((number, cells, table), (77, [9; 10], [9; 17]));
+        assert_eq!((counted.err(), solved.err()), (left.err(), left.err()));
+        left.unwrap_err()
+    };
+    assert_eq!(refused(&[0, 2, 0], 82), Refusal::Target);
+    assert_eq!(refused(&[0; 3], 82), Refusal::ListLimit(40));
+    assert_eq!(refused(&[0; 3], 81), Refusal::ListLimit(40));
+    assert_eq!(refused(&[0; 3], 80), Refusal::MarkSpare);
 }
