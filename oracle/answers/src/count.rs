@@ -2,6 +2,8 @@
 
 use inputs::{Asked, Rng};
 
+use rules::Unit;
+
 use crate::searching::{LIMIT, answered, begun, ended, refused, two_grids};
 use crate::{Call, Record};
 
@@ -17,7 +19,13 @@ pub fn records() -> Vec<Record> {
         records.extend(counted(&two_grids(&[]), cap).map(|(_, record)| record));
     }
     records.extend(refused().iter().map(|asked| {
-        let number = rules::count_refusal(asked.size, &asked.rows, &asked.columns, &asked.marks);
+        let number = rules::count_refusal(
+            Unit::HALL,
+            asked.size,
+            &asked.rows,
+            &asked.columns,
+            &asked.marks,
+        );
         record(asked, 2, number.expect("a refusal"), None)
     }));
     records

@@ -1,7 +1,7 @@
 //! Fields: size, rows, columns, cells, answer.
 
 use inputs::{Rng, SeededRng};
-use rules::BLACK;
+use rules::{BLACK, Unit};
 
 use crate::{Call, Record};
 
@@ -76,7 +76,7 @@ fn right(rng: &mut SeededRng, size: usize) -> (Vec<u8>, Vec<u8>, Vec<u8>) {
 }
 
 fn record(size: usize, rows: &[u8], columns: &[u8], cells: &[u8]) -> Record {
-    let rules = rules::mark_sheet(size, rows, columns, cells);
+    let rules = rules::mark_sheet(Unit::HALL, size, rows, columns, cells);
     if let Ok(right) = rules {
         let rust = reference::is_right(size, rows, columns, cells);
         assert_eq!(rust, right, "the Rust differs from the rules: run compare");

@@ -2,7 +2,7 @@
 
 use inputs::{Asked, Puzzle, Rng, SeededRng};
 use reference::Limit;
-use rules::Mark;
+use rules::{Mark, Unit};
 
 use crate::Call;
 use crate::record::{Record, of_each_kind, pattern};
@@ -122,7 +122,7 @@ fn refused_at(size: usize) -> Vec<Asked> {
 }
 
 /// As `rules::solve_refusal`.
-type Refusal = fn(usize, &[u8], &[u8], &[u8], usize) -> Option<u8>;
+type Refusal = fn(Unit, usize, &[u8], &[u8], &[u8], usize) -> Option<u8>;
 
 /// Records of a call with so many bytes for each cell: refused for their puzzle
 /// or marks with a buffer that is too short as well, and for the buffer alone.
@@ -144,7 +144,7 @@ pub fn refused_with_room(call: Call, each: usize, refusal: Refusal) -> Vec<Recor
             columns,
             marks,
         } = &asked;
-        let number = refusal(*size, rows, columns, marks, length).expect("a refusal");
+        let number = refusal(Unit::HALL, *size, rows, columns, marks, length).expect("a refusal");
         ended(begun(call, &asked), length, number, None)
     };
     earlier.chain(short).map(record).collect()

@@ -2,7 +2,7 @@
 //! columns after.
 
 use inputs::{Rng, SeededRng};
-use rules::BLACK;
+use rules::{BLACK, Unit};
 
 use crate::record::{of_each_kind, pattern};
 use crate::{Call, Record};
@@ -50,7 +50,7 @@ fn any_cells(rng: &mut SeededRng, size: usize) -> Vec<u8> {
 /// agrees with the rules.
 fn answered(size: usize, cells: &[u8]) -> (u8, Record) {
     let rust = reference::target_sums(size, cells);
-    let rules = rules::target_sums(size, cells, size, size);
+    let rules = rules::target_sums(Unit::HALL, size, cells, size, size);
     let number = match (rust, rules) {
         (Err(10), Err(9)) => 9,
         (rust, rules) if rust == rules => rust.err().unwrap_or(0),
@@ -104,7 +104,7 @@ fn refused() -> Vec<Record> {
 
 fn record(size: usize, cells: &[u8], rows_len: usize, columns_len: usize) -> Record {
     let (rows, columns) = (pattern(rows_len), pattern(columns_len));
-    let answer = rules::target_sums(size, cells, rows_len, columns_len);
+    let answer = rules::target_sums(Unit::HALL, size, cells, rows_len, columns_len);
     let number = answer.as_ref().err().copied().unwrap_or(0);
     let (rows_after, columns_after) = answer.unwrap_or((rows.clone(), columns.clone()));
     Record::of(Call::TargetSums)

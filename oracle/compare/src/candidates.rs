@@ -1,6 +1,7 @@
 //! The candidate table.
 
 use inputs::Asked;
+use rules::Unit;
 
 use crate::engine::{Engine, Question};
 use crate::searching::{Accepted, Expected, Room, Searching, Table, disagree};
@@ -13,8 +14,9 @@ impl Searching for Candidates {
 
     const NAME: &'static str = "candidates";
 
-    fn refusal(asked: &Asked, Room(length): Table) -> Option<u8> {
+    fn refusal(unit: Unit, asked: &Asked, Room(length): Table) -> Option<u8> {
         rules::candidates_refusal(
+            unit,
             asked.size,
             &asked.rows,
             &asked.columns,
@@ -39,8 +41,14 @@ impl Searching for Candidates {
         length
     }
 
-    fn run(engine: &dyn Engine, asked: Question, _table: Table, table: &mut [u8]) -> u8 {
-        engine.candidates(asked, table)
+    fn run(
+        engine: &dyn Engine,
+        unit: Unit,
+        asked: Question,
+        _table: Table,
+        table: &mut [u8],
+    ) -> u8 {
+        engine.candidates(unit, asked, table)
     }
 }
 

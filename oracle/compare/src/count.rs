@@ -2,6 +2,7 @@
 
 use inputs::Asked;
 use reference::Limit;
+use rules::Unit;
 
 use crate::engine::{Engine, Question};
 use crate::harness::Label;
@@ -15,8 +16,8 @@ impl Searching for Count {
 
     const NAME: &'static str = "count";
 
-    fn refusal(asked: &Asked, _cap: Cap) -> Option<u8> {
-        rules::count_refusal(asked.size, &asked.rows, &asked.columns, &asked.marks)
+    fn refusal(unit: Unit, asked: &Asked, _cap: Cap) -> Option<u8> {
+        rules::count_refusal(unit, asked.size, &asked.rows, &asked.columns, &asked.marks)
     }
 
     fn expected(accepted: &Accepted, Cap(cap): Cap) -> Result<Option<Expected<u64>>, String> {
@@ -37,8 +38,14 @@ impl Searching for Count {
         1
     }
 
-    fn run(engine: &dyn Engine, asked: Question, Cap(cap): Cap, count: &mut [u64]) -> u8 {
-        engine.count(asked, cap, &mut count[0])
+    fn run(
+        engine: &dyn Engine,
+        unit: Unit,
+        asked: Question,
+        Cap(cap): Cap,
+        count: &mut [u64],
+    ) -> u8 {
+        engine.count(unit, asked, cap, &mut count[0])
     }
 }
 

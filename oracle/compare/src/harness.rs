@@ -26,7 +26,31 @@ pub fn refused(number: u8) -> Label {
         "refused 9",
         "refused 10",
     ];
-    LABELS[usize::from(number) - 1]
+    match number {
+        18 => "refused 18",
+        19 => "refused 19",
+        _ => LABELS[usize::from(number) - 1],
+    }
+}
+
+/// The answer that all sides agree on: in the hall, and in a classroom where it is
+/// another there.
+#[derive(Clone, Copy)]
+pub struct Answer {
+    pub hall: Label,
+    pub classroom: Option<Label>,
+}
+
+impl Answer {
+    /// What a classroom alone refuses is counted under a name of its own.
+    pub fn of(hall: Label, classroom: Option<u8>) -> Self {
+        let classroom = match classroom {
+            Some(18) => Some("classroom refused 18"),
+            Some(19) => Some("classroom refused 19"),
+            _ => None,
+        };
+        Self { hall, classroom }
+    }
 }
 
 /// A call under comparison.
@@ -38,8 +62,9 @@ pub trait Call {
     /// The families of inputs.
     fn families() -> Vec<Family<Self::Input>>;
 
-    /// Runs every side on one input: the answer they agree on, or what differs.
-    fn check(engine: &dyn Engine, input: &Self::Input) -> Result<Label, String>;
+    /// Runs every side on one input, the engine in both units: the answer they agree
+    /// on, or what differs.
+    fn check(engine: &dyn Engine, input: &Self::Input) -> Result<Answer, String>;
 
     /// Inputs that are simpler than this one in some measure that cannot fall
     /// for ever, the simplest first.
@@ -91,9 +116,11 @@ pub struct Tally {
 }
 
 impl Tally {
-    fn add(&mut self, label: Label) {
+    fn add(&mut self, answer: Answer) {
         self.inputs += 1;
-        *self.answers.entry(label).or_default() += 1;
+        for label in [Some(answer.hall), answer.classroom].into_iter().flatten() {
+            *self.answers.entry(label).or_default() += 1;
+        }
     }
 }
 
@@ -174,7 +201,7 @@ impl<C: Call> Job for FamilyJob<C> {
     }
 }
 
-fn answer<C: Call>(engine: &dyn Engine, input: C::Input) -> Result<Label, Failure> {
+fn answer<C: Call>(engine: &dyn Engine, input: C::Input) -> Result<Answer, Failure> {
     C::check(engine, &input).map_err(|difference| smallest::<C>(engine, input, difference))
 }
 

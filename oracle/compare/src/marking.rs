@@ -3,11 +3,11 @@
 use std::fmt;
 
 use inputs::{Rng, SeededRng};
-use rules::{BLACK, EMPTY};
+use rules::{BLACK, EMPTY, Unit};
 
 use crate::engine::Engine;
 use crate::guarded::Guarded;
-use crate::harness::{Call, Family, Label, refused};
+use crate::harness::{Answer, Call, Family, Label, refused};
 use crate::simpler;
 
 pub struct MarkSheet;
@@ -78,13 +78,19 @@ impl Call for MarkSheet {
         ]
     }
 
-    fn check(engine: &dyn Engine, input: &Input) -> Result<Label, String> {
-        let rules = rules::mark_sheet(input.size, &input.rows, &input.columns, &input.cells);
-        against_rules(engine, input, rules)?;
-        match rules {
-            Err(number @ (1 | 2 | 7)) => Ok(label(Err(number))),
-            rules => against_rust(input, rules),
-        }
+    fn check(engine: &dyn Engine, input: &Input) -> Result<Answer, String> {
+        let in_unit = |unit| {
+            let (rows, columns) = (&input.rows, &input.columns);
+            let rules = rules::mark_sheet(unit, input.size, rows, columns, &input.cells);
+            against_rules(engine, unit, input, rules)?;
+            Ok::<_, String>(rules)
+        };
+        let classroom = in_unit(Unit::CLASSROOM)?.err();
+        let label = match in_unit(Unit::HALL)? {
+            Err(number @ (1 | 2 | 7)) => refused(number),
+            rules => against_rust(input, rules)?,
+        };
+        Ok(Answer::of(label, classroom))
     }
 
     fn simpler(input: &Input) -> Vec<Input> {
@@ -112,6 +118,7 @@ fn label(rules: Result<bool, u8>) -> Label {
 /// The engine's number; none of the bytes may change.
 fn against_rules(
     engine: &dyn Engine,
+    unit: Unit,
     input: &Input,
     rules: Result<bool, u8>,
 ) -> Result<(), String> {
@@ -119,6 +126,7 @@ fn against_rules(
     let mut columns = Guarded::holding(&input.columns);
     let mut cells = Guarded::holding(&input.cells);
     let number = engine.mark_sheet(
+        unit,
         input.size,
         rows.content(),
         columns.content(),
@@ -132,10 +140,12 @@ fn against_rules(
     };
     if number != expected {
         Err(format!(
-            "the engine answers {number}, the rules give {expected}"
+            "{unit:?}: the engine answers {number}, the rules give {expected}"
         ))
     } else if ![rows, columns, cells].iter().all(Guarded::is_untouched) {
-        Err(format!("the engine answers {number} and changed its input"))
+        Err(format!(
+            "{unit:?}: the engine answers {number} and changed its input"
+        ))
     } else {
         Ok(())
     }
@@ -209,7 +219,7 @@ fn right_one_way(rng: &mut SeededRng, size: usize) -> Vec<u8> {
 /// Where the cells have no sums, all targets are 0.
 fn with_own_sums(size: usize, cells: Vec<u8>) -> Input {
     let zeros = (vec![0; size], vec![0; size]);
-    let (rows, columns) = rules::target_sums(size, &cells, size, size).unwrap_or(zeros);
+    let (rows, columns) = rules::target_sums(Unit::HALL, size, &cells, size, size).unwrap_or(zeros);
     Input {
         size,
         rows,

@@ -2,6 +2,7 @@
 
 use inputs::Asked;
 use reference::{Limit, Solved};
+use rules::Unit;
 
 use crate::engine::{Engine, Question};
 use crate::searching::{Accepted, Cells, Expected, Room, Searching, disagree};
@@ -17,8 +18,9 @@ impl Searching for Solve {
 
     const NAME: &'static str = "solve";
 
-    fn refusal(asked: &Asked, Room(length): Cells) -> Option<u8> {
+    fn refusal(unit: Unit, asked: &Asked, Room(length): Cells) -> Option<u8> {
         rules::solve_refusal(
+            unit,
             asked.size,
             &asked.rows,
             &asked.columns,
@@ -49,8 +51,14 @@ impl Searching for Solve {
         length
     }
 
-    fn run(engine: &dyn Engine, asked: Question, _cells: Cells, cells: &mut [u8]) -> u8 {
-        engine.solve(asked, cells)
+    fn run(
+        engine: &dyn Engine,
+        unit: Unit,
+        asked: Question,
+        _cells: Cells,
+        cells: &mut [u8],
+    ) -> u8 {
+        engine.solve(unit, asked, cells)
     }
 }
 

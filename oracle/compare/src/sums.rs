@@ -3,11 +3,11 @@
 use std::fmt;
 
 use inputs::{Rng, SeededRng};
-use rules::{BLACK, EMPTY, Sums};
+use rules::{BLACK, EMPTY, Sums, Unit};
 
 use crate::engine::Engine;
 use crate::guarded::Guarded;
-use crate::harness::{Call, Family, Label, refused};
+use crate::harness::{Answer, Call, Family, Label, refused};
 use crate::simpler;
 
 pub struct TargetSums;
@@ -76,14 +76,25 @@ impl Call for TargetSums {
         ]
     }
 
-    fn check(engine: &dyn Engine, input: &Input) -> Result<Label, String> {
-        let rules = rules::target_sums(input.size, &input.cells, input.rows_len, input.columns_len);
-        against_rules(engine, input, &rules)
-            .map_err(|difference| format!("{difference}\n  {}", rust_says(input)))?;
-        match rules {
-            Err(number @ (1 | 2 | 7)) => Ok(refused(number)),
-            rules => against_rust(input, &rules),
-        }
+    fn check(engine: &dyn Engine, input: &Input) -> Result<Answer, String> {
+        let in_unit = |unit| {
+            let rules = rules::target_sums(
+                unit,
+                input.size,
+                &input.cells,
+                input.rows_len,
+                input.columns_len,
+            );
+            against_rules(engine, unit, input, &rules)
+                .map_err(|difference| format!("{difference}\n  {}", rust_says(input)))?;
+            Ok::<_, String>(rules)
+        };
+        let classroom = in_unit(Unit::CLASSROOM)?.err();
+        let label = match in_unit(Unit::HALL)? {
+            Err(number @ (1 | 2 | 7)) => refused(number),
+            rules => against_rust(input, &rules)?,
+        };
+        Ok(Answer::of(label, classroom))
     }
 
     fn simpler(input: &Input) -> Vec<Input> {
@@ -100,6 +111,7 @@ impl Call for TargetSums {
 /// The engine's number and every byte it could have touched.
 fn against_rules(
     engine: &dyn Engine,
+    unit: Unit,
     input: &Input,
     rules: &Result<Sums, u8>,
 ) -> Result<(), String> {
@@ -107,6 +119,7 @@ fn against_rules(
     let mut rows = Guarded::patterned(input.rows_len);
     let mut columns = Guarded::patterned(input.columns_len);
     let number = engine.target_sums(
+        unit,
         input.size,
         cells.content(),
         rows.content(),
@@ -119,16 +132,18 @@ fn against_rules(
     };
     if number != expected {
         Err(format!(
-            "the engine answers {number}, the rules give {rules:?}"
+            "{unit:?}: the engine answers {number}, the rules give {rules:?}"
         ))
     } else if !written {
         let (rows, columns) = (rows.content(), columns.content());
         Err(format!(
-            "the engine answers {number} and leaves rows {rows:?}, columns {columns:?} or bytes \
+            "{unit:?}: the engine answers {number} and leaves rows {rows:?}, columns {columns:?} or bytes \
              beside them changed; the rules give {rules:?}"
         ))
     } else if !cells.is_untouched() {
-        Err(format!("the engine answers {number} and changed the cells"))
+        Err(format!(
+            "{unit:?}: the engine answers {number} and changed the cells"
+        ))
     } else {
         Ok(())
     }

@@ -90,7 +90,13 @@ fn a_damaged_input_is_often_refused_and_in_every_way() {
         inputs::damage_asked(&mut rng, &mut asked);
         let Asked { size, rows, .. } = &asked;
         let (columns, marks) = (&asked.columns, &asked.marks);
-        refusals.insert(rules::count_refusal(*size, rows, columns, marks));
+        refusals.insert(rules::count_refusal(
+            rules::Unit::HALL,
+            *size,
+            rows,
+            columns,
+            marks,
+        ));
     }
     let every = [None, Some(1), Some(2), Some(3), Some(4), Some(5), Some(6)];
     assert_eq!(refusals, HashSet::from(every));

@@ -34,7 +34,10 @@ fn panics_become_numbers() {
 fn an_overflow_before_an_empty_cell() {
     let cells = first_row_then_diagonals(&[B, 3, 254, 0, B]);
     assert_eq!(target_sums(5, &cells), Err(10));
-    assert_eq!(rules::target_sums(5, &cells, 5, 5), Err(9));
+    assert_eq!(
+        rules::target_sums(rules::Unit::HALL, 5, &cells, 5, 5),
+        Err(9)
+    );
     let cells = first_row_then_diagonals(&[B, 0, 3, 254, B]);
     assert_eq!(target_sums(5, &cells), Err(9));
 }

@@ -12,6 +12,7 @@ mod marks;
 mod searching;
 mod sums;
 mod table;
+mod unit;
 
 pub use every::{LISTED, every_grid};
 pub use fault::{LineFault, line_fault};
@@ -22,6 +23,7 @@ pub use marks::{Mark, marks_refusal};
 pub use searching::{candidates_refusal, count_refusal, marks_of, solve_refusal, word_bytes};
 pub use sums::{Sums, line_sum, target_sums};
 pub use table::{has_grid, is_filled, shows_mark};
+pub use unit::Unit;
 
 /// Cell byte of a cell that holds nothing.
 pub const EMPTY: u8 = 0;
@@ -54,9 +56,11 @@ pub fn cells_refusal(size: usize, length: usize) -> Option<u8> {
     (length != size * size).then_some(7)
 }
 
-/// Numbers 1, 2 and 3, in this order: what every call with a puzzle checks first.
-pub fn puzzle_refusal(size: usize, rows: &[u8], columns: &[u8]) -> Option<u8> {
+/// Numbers 1, 18, 2 and 3, in this order: what every call with a puzzle checks
+/// first.
+pub fn puzzle_refusal(unit: Unit, size: usize, rows: &[u8], columns: &[u8]) -> Option<u8> {
     size_refusal(size)
+        .or_else(|| unit.size_refusal(size))
         .or_else(|| lengths_refusal(size, rows.len(), columns.len()))
         .or_else(|| targets_refusal(size, rows, columns))
 }

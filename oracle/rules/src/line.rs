@@ -1,6 +1,6 @@
 //! A line that the program `sheet` reads.
 
-use crate::puzzle_refusal;
+use crate::{Unit, puzzle_refusal};
 
 /// The most bytes of a line; its line end does not count.
 const LONGEST: usize = 80;
@@ -22,7 +22,7 @@ pub fn line_puzzle(line: &[u8]) -> Result<LinePuzzle, u8> {
     // Both halves have the size's length exactly if there are 2N targets, so that
     // number 2 is the same question here as for the calls.
     let (rows, columns) = targets.split_at(targets.len().min(size));
-    match puzzle_refusal(size, rows, columns) {
+    match puzzle_refusal(Unit::HALL, size, rows, columns) {
         Some(number) => Err(number),
         None => Ok(LinePuzzle {
             size,

@@ -1,16 +1,18 @@
-use crate::{BLACK, EMPTY, cells_refusal, lengths_refusal, size_refusal};
+use crate::{BLACK, EMPTY, Unit, cells_refusal, lengths_refusal, size_refusal};
 
 /// The sums of the rows and of the columns.
 pub type Sums = (Vec<u8>, Vec<u8>);
 
 /// Target sums: the answer for buffers of these lengths.
 pub fn target_sums(
+    unit: Unit,
     size: usize,
     cells: &[u8],
     rows_len: usize,
     columns_len: usize,
 ) -> Result<Sums, u8> {
     let refusal = size_refusal(size)
+        .or_else(|| unit.size_refusal(size))
         .or_else(|| cells_refusal(size, cells.len()))
         .or_else(|| lengths_refusal(size, rows_len, columns_len));
     match refusal {

@@ -2,7 +2,7 @@
 
 use inputs::all_lists;
 use rules::LineFault::{Blacks, Digits, Sum};
-use rules::{BLACK as B, EMPTY, line_fault, line_sum, mark_sheet};
+use rules::{BLACK as B, EMPTY, Unit, line_fault, line_sum, mark_sheet};
 
 /// Whether the line keeps its target, without any sequence: sorted, it is the
 /// digits and two blacks, and it has the sum.
@@ -76,7 +76,7 @@ fn a_sheet_is_right_if_no_line_has_a_fault() {
             let column = |c: usize| [cells[c], cells[3 + c], cells[6 + c]];
             let right = (0..3).all(|r| keeps(&row(r), rows[r]))
                 && (0..3).all(|c| keeps(&column(c), columns[c]));
-            assert_eq!(mark_sheet(3, rows, columns, &cells), Ok(right));
+            assert_eq!(mark_sheet(Unit::HALL, 3, rows, columns, &cells), Ok(right));
         }
     }
 }

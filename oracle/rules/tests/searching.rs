@@ -3,7 +3,7 @@
 use std::collections::BTreeSet;
 
 use rules::{
-    BLACK as B, candidates_refusal, count_refusal, every_grid, has_grid, is_filled, marks_of,
+    BLACK as B, Unit, candidates_refusal, count_refusal, every_grid, has_grid, is_filled, marks_of,
     satisfies, shows_mark, solve_refusal, ways, word_bytes,
 };
 
@@ -11,7 +11,7 @@ const ZERO: [u8; 3] = [0; 3];
 
 #[test]
 fn half_a_mark_is_refused_in_its_turn() {
-    let refused = |marks: &[u8]| count_refusal(3, &ZERO, &ZERO, marks);
+    let refused = |marks: &[u8]| count_refusal(Unit::HALL, 3, &ZERO, &ZERO, marks);
     assert_eq!(refused(&[]), None);
     assert_eq!(refused(&[0x00, 0x08]), None);
     assert_eq!(refused(&[0x00]), Some(4));
@@ -24,10 +24,10 @@ fn half_a_mark_is_refused_in_its_turn() {
 fn the_first_fault_decides() {
     let solve = |size, rows: &[u8], marks: &[u8], length| {
         assert_eq!(
-            solve_refusal(size, rows, &ZERO, marks, length),
-            candidates_refusal(size, rows, &ZERO, marks, 2 * length)
+            solve_refusal(Unit::HALL, size, rows, &ZERO, marks, length),
+            candidates_refusal(Unit::HALL, size, rows, &ZERO, marks, 2 * length)
         );
-        solve_refusal(size, rows, &ZERO, marks, length)
+        solve_refusal(Unit::HALL, size, rows, &ZERO, marks, length)
     };
     assert_eq!(solve(10, &[9], &[1], 0), Some(1));
     assert_eq!(solve(3, &[9], &[1], 0), Some(2));
@@ -36,8 +36,14 @@ fn the_first_fault_decides() {
     assert_eq!(solve(3, &ZERO, &[0x7F, 0xF8], 0), Some(5));
     assert_eq!(solve(3, &ZERO, &[], 8), Some(7));
     assert_eq!(solve(3, &ZERO, &[], 9), None);
-    assert_eq!(candidates_refusal(3, &ZERO, &ZERO, &[], 17), Some(7));
-    assert_eq!(candidates_refusal(3, &ZERO, &ZERO, &[], 9), Some(7));
+    assert_eq!(
+        candidates_refusal(Unit::HALL, 3, &ZERO, &ZERO, &[], 17),
+        Some(7)
+    );
+    assert_eq!(
+        candidates_refusal(Unit::HALL, 3, &ZERO, &ZERO, &[], 9),
+        Some(7)
+    );
 }
 
 /// Rows laid one under the other find what trying every way finds.

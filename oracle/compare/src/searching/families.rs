@@ -9,6 +9,7 @@ use crate::harness::Family;
 pub fn families<R: Rest>() -> Vec<Family<Input<R>>> {
     vec![
         Family::whole("limits", limits),
+        Family::whole("sizes 0 to 11, up to 1,000 marks", unit_limits),
         Family::whole("faulty marks in a row", faulty_marks),
         Family::whole("size 2, targets 0 and 1, up to two marks", || {
             with_marks(inputs::all_lists(4, &[0, 1]), 0..=2)
@@ -102,6 +103,57 @@ fn limits<R: Rest>() -> impl Iterator<Item = Input<R>> {
             .flat_map(move |lengths| of_lengths(size, &good, lengths))
             .flat_map(move |asked| with_each(&asked, R::around(length)))
     })
+}
+
+/// Lists around the limit of a classroom and far beyond, whole and with half a mark
+/// behind, with each choice of the faults before and behind the two questions of a
+/// unit.
+fn unit_limits<R: Rest>() -> impl Iterator<Item = Input<R>> {
+    (0..=11).flat_map(|size| {
+        [0, 39, 40, 41, 1000]
+            .into_iter()
+            .flat_map(move |length| unit_lists(size, length))
+            .flat_map(move |marks| unit_puzzles(size, &marks))
+            .flat_map(move |asked| with_each(&asked, R::around(size)))
+    })
+}
+
+/// A list of so many good marks, the same with a fault in its first or its last, and
+/// each of these with half a mark behind.
+fn unit_lists(size: usize, length: usize) -> Vec<Vec<u8>> {
+    let good = vec![Mark::rejecting(0, 0, 8, 0); length];
+    let mut lists = vec![good.clone()];
+    for place in [0, length.saturating_sub(1)] {
+        let mut faulty = good.clone();
+        if let Some(mark) = faulty.get_mut(place) {
+            *mark = Mark::rejecting(size, 0, 12, 0);
+            lists.push(faulty);
+        }
+    }
+    let whole = lists.iter().map(|list| rules::word_bytes(list));
+    let half = whole.clone().map(|bytes| [bytes, vec![0]].concat());
+    whole.chain(half).collect()
+}
+
+/// Good targets, one that is too large, a row too few, and both faults.
+fn unit_puzzles(size: usize, marks: &[u8]) -> Vec<Asked> {
+    let [rows, columns] = short_targets(size);
+    let mut large = columns.clone();
+    large.iter_mut().take(1).for_each(|target| *target = 29);
+    let short = &rows[size.min(1)..];
+    [
+        (&rows[..], &columns),
+        (&rows[..], &large),
+        (short, &columns),
+        (short, &large),
+    ]
+    .map(|(rows, columns)| Asked {
+        size,
+        rows: rows.to_vec(),
+        columns: columns.clone(),
+        marks: marks.to_vec(),
+    })
+    .to_vec()
 }
 
 /// Targets that are soon searched, as many as there are lines.

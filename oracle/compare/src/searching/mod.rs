@@ -9,10 +9,11 @@ mod smaller;
 use std::fmt::{self, Debug};
 
 use inputs::Asked;
+use rules::Unit;
 
 use crate::engine::{Engine, Question};
 use crate::guarded::{Entry, Guarded};
-use crate::harness::{Call, Family, Label, refused};
+use crate::harness::{Answer, Call, Family, Label, refused};
 use crate::simpler;
 
 pub use rest::{Cap, Cells, Rest, Room, Table};
@@ -24,7 +25,7 @@ pub trait Searching: 'static {
 
     const NAME: &'static str;
 
-    fn refusal(asked: &Asked, rest: Self::Rest) -> Option<u8>;
+    fn refusal(unit: Unit, asked: &Asked, rest: Self::Rest) -> Option<u8>;
 
     /// What has to come back where nothing is refused; `None` if the Rust passes
     /// its limit. An error if the Rust does not give what the rules ask for.
@@ -38,6 +39,7 @@ pub trait Searching: 'static {
 
     fn run(
         engine: &dyn Engine,
+        unit: Unit,
         asked: Question,
         rest: Self::Rest,
         buffer: &mut [Self::Written],
@@ -53,15 +55,21 @@ impl<S: Searching> Call for S {
         families::families()
     }
 
-    fn check(engine: &dyn Engine, input: &Self::Input) -> Result<Label, String> {
-        let expected = match S::refusal(&input.asked, input.rest) {
+    /// What both units take has to come back the same from both.
+    fn check(engine: &dyn Engine, input: &Self::Input) -> Result<Answer, String> {
+        let hall = match S::refusal(Unit::HALL, &input.asked, input.rest) {
             Some(number) => Some(Expected::refused(number)),
             None => S::expected(&Accepted::of(&input.asked), input.rest)?,
         };
-        match expected {
-            Some(expected) => held_to::<S>(&expected, engine, input),
-            None => Ok(SKIPPED),
-        }
+        let refused = S::refusal(Unit::CLASSROOM, &input.asked, input.rest);
+        match refused {
+            Some(number) => {
+                held_to::<S>(&Expected::refused(number), engine, Unit::CLASSROOM, input)?
+            }
+            None => held_if_known::<S>(hall.as_ref(), engine, Unit::CLASSROOM, input)?,
+        };
+        let label = held_if_known::<S>(hall.as_ref(), engine, Unit::HALL, input)?;
+        Ok(Answer::of(label, refused))
     }
 
     fn simpler(input: &Self::Input) -> Vec<Self::Input> {
@@ -137,10 +145,23 @@ impl<T> Expected<T> {
     }
 }
 
+fn held_if_known<S: Searching>(
+    expected: Option<&Expected<S::Written>>,
+    engine: &dyn Engine,
+    unit: Unit,
+    input: &Input<S::Rest>,
+) -> Result<Label, String> {
+    match expected {
+        Some(expected) => held_to::<S>(expected, engine, unit, input),
+        None => Ok(SKIPPED),
+    }
+}
+
 /// The engine's number and every entry it could have touched.
 fn held_to<S: Searching>(
     expected: &Expected<S::Written>,
     engine: &dyn Engine,
+    unit: Unit,
     input: &Input<S::Rest>,
 ) -> Result<Label, String> {
     let Input { asked, rest } = input;
@@ -154,28 +175,30 @@ fn held_to<S: Searching>(
         columns: columns.content(),
         marks: marks.content(),
     };
-    let number = S::run(engine, question, *rest, buffer.content());
+    let number = S::run(engine, unit, question, *rest, buffer.content());
 
     let is_right = match &expected.written {
         Some(entries) => buffer.holds(entries),
         None => buffer.is_untouched(),
     };
     if number != expected.number || !is_right {
-        Err(difference(expected, number, buffer.content()))
+        Err(difference(unit, expected, number, buffer.content()))
     } else if ![rows, columns, marks].iter().all(Guarded::is_untouched) {
-        Err(format!("the engine answers {number} and changed its input"))
+        Err(format!(
+            "{unit:?}: the engine answers {number} and changed its input"
+        ))
     } else {
         Ok(expected.label)
     }
 }
 
-fn difference<T: Debug>(expected: &Expected<T>, number: u8, left: &[T]) -> String {
+fn difference<T: Debug>(unit: Unit, expected: &Expected<T>, number: u8, left: &[T]) -> String {
     let right = match &expected.written {
         Some(entries) => format!("{} with {entries:x?}", expected.number),
         None => format!("{} and nothing written", expected.number),
     };
     format!(
-        "the engine answers {number} and leaves {left:x?} or entries beside it; right is {right}"
+        "{unit:?}: the engine answers {number} and leaves {left:x?} or entries beside it; right is {right}"
     )
 }
 
