@@ -1,4 +1,6 @@
 // Applying the marks of a question to the solver's state (in the Rust: take_branch and reject_branch, without their propagation).
+#![tactic(auto)]
+
 ghost use Rattle.std.specs.Prelude.{[], ◌∷◌};
 ghost use Rattle.rules.specs.Mark.{marks_of};
 ghost use Rattle.apply_marks.specs.Applied.{MarkAsk, MarksAsk, MarksApplied};

@@ -1,4 +1,6 @@
 // The live arrangements of the lines, and arc consistency (in the Rust: update_arc).
+#![tactic(auto)]
+
 ghost use Rattle.std.specs.Prelude.{◌≡◌, ◌⊎◌, ◌+◌, ◌≤◌, ◌<◌, length, get_or};
 ghost use Rattle.slab.specs.Layout.{per_line, slab_size};
 ghost use Rattle.words.specs.Word.{after};

@@ -1,5 +1,7 @@
 // The search (in the Rust: backtrack.rs). It calls itself on the branch that takes a candidate, so that it is at most n * n deep, and goes on in a loop
 // on the branch that rejects it.
+#![tactic(auto)]
+
 ghost use Rattle.std.specs.Prelude.{◌≡◌, ◌&&◌, ◌*◌, eqb, length};
 ghost use Rattle.invariants.specs.State.{PropagateAsk};
 ghost use Rattle.backtrack.specs.Search.{Advanced, SearchAsk, Searched, SettleAsk, SettledAs};

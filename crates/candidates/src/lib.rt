@@ -1,4 +1,6 @@
 // Candidates: the table of candidates after the marks and one more propagation (in the Rust: domains after propagate).
+#![tactic(auto)]
+
 ghost use Rattle.std.specs.Prelude.{length};
 ghost use Rattle.rules.specs.Mark.{marks_of};
 ghost use Rattle.rules.specs.Grid.{puzzle};

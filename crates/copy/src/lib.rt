@@ -1,5 +1,7 @@
 // A copy of the state, made at each branch of the search (in the Rust: the clone of QueueSolverState).
 // Called once for each branch of the search: the whole state, 11 KB, some 300 ns. The loop has no test but its end, so that it compiles to vector moves.
+#![tactic(auto)]
+
 ghost use Rattle.std.specs.Prelude.{◌≡◌, length};
 
 pub fn copy(from: &[u16], to: &mut [u16])

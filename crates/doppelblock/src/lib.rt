@@ -1,4 +1,6 @@
 // What a host of the hall links: numbers and byte slices only. An answer is a number: that of a refusal, or one of `host::Answer`.
+#![tactic(auto)]
+
 ghost use Rattle.std.specs.Prelude.{◌≡◌, length};
 ghost use Rattle.units.specs.Limits.{hall, list_limit};
 ghost use Rattle.rules.specs.Grid.{puzzle};

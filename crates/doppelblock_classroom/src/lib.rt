@@ -1,4 +1,6 @@
 // What a host of a classroom links: the calls of crates/doppelblock within the limits of the classrooms.
+#![tactic(auto)]
+
 ghost use Rattle.std.specs.Prelude.{◌≡◌, length};
 ghost use Rattle.units.specs.Limits.{classroom, list_limit};
 ghost use Rattle.rules.specs.Grid.{puzzle};

@@ -1,4 +1,6 @@
 // Count and Solve (in the Rust: count_solutions and solve).
+#![tactic(auto)]
+
 ghost use Rattle.std.specs.Prelude.{◌≡◌, length};
 ghost use Rattle.rules.specs.Mark.{marks_of};
 ghost use Rattle.rules.specs.Check.{refusal, count_checks, solve_checks};

@@ -1,4 +1,6 @@
 // The state before any strike: every candidate of the size, and counters to match.
+#![tactic(auto)]
+
 ghost use Rattle.std.specs.Prelude.{◌≡◌, ◌+◌, ◌*◌, ◌≤◌, ◌<◌, length};
 ghost use Rattle.rules.specs.Size.{Size};
 ghost use Rattle.fresh.specs.Fresh.{Filled, Blank, RowsFull, Fresh};

@@ -1,4 +1,6 @@
 // The calls of a host in a unit: answers become numbers, and a table of candidates becomes bytes.
+#![tactic(auto)]
+
 ghost use Rattle.std.specs.Prelude.{◌≡◌, min, length};
 ghost use Rattle.rules.specs.Grid.{puzzle};
 ghost use Rattle.rules.specs.Mark.{marks_of};

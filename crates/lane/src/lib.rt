@@ -1,4 +1,6 @@
 // A line as the code walks it, so that rows and columns are one case.
+#![tactic(auto)]
+
 ghost use Rattle.std.specs.Prelude.{◌≡◌, ◌<◌};
 ghost use Rattle.lane.specs.Lanes.{row_lane, column_lane};
 

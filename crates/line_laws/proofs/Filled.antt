@@ -9,7 +9,7 @@ use native.Mathlib.Omega.{arith}
 use native.Mathlib.Nat.{mod-lt, div-add-mod', div-lt_iff_lt-mul}
 use native.Mathlib.Decide.{dec_lt}
 use lib.Dec.{eqb}
-use lib.ListN.{length, get_or, length_map}
+use lib.ListN.{length, get_or, length-map}
 use borrow.Author.Tests.{eqb-true, eq-eqb}
 use Rattle.tally.specs.Tally.{all, count, sum, span}
 use Rattle.tally.specs.Way.{Way}
@@ -82,7 +82,7 @@ module _ (p : Puzzle) (g : List ℕ) (s : Size p.size) (long : length g ≡ p.si
   row_symbol : (r c : ℕ) → r < p.size → c < p.size → Memᴰ (cell p.size g r c) (symbols p.size)
   unfolding keeps_line line row index
   row_symbol r c h k =
-      line_symbol p.size (row p.size g r) s (length_map (span 0 p.size) (λ c. cell p.size g r c) ∙ span_length 0 p.size)
+      line_symbol p.size (row p.size g r) s (length-map (span 0 p.size) (λ c. cell p.size g r c) ∙ span_length 0 p.size)
       (and_left (lawful p.size (row p.size g r)) _ (line_keeps p g t (across r) h)) (Memᴰ.map (λ c. cell p.size g r c) (span_mem 0 p.size c (omega arith) (omega arith)))
 
   cell_symbol : (i : ℕ) → i < length g → Memᴰ (get_or g i 0) (symbols p.size)

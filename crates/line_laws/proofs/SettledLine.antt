@@ -7,7 +7,7 @@ use mathlib.Core.List.{List, map, Memᴰ}
 use native.Mathlib.Omega.{arith}
 use native.Mathlib.Decide.{ℕ_discrete}
 use lib.Dec.{eqb, ltb}
-use lib.ListN.{length, get_or, take, length_map}
+use lib.ListN.{length, get_or, take, length-map}
 use borrow.Author.Tests.{eqb-true, eq-eqb, ne_eqb, lt-ltb, le-ltb}
 use Rattle.tally.specs.Tally.{one_if, count, span}
 use Rattle.tally.specs.Way.{Way}
@@ -61,7 +61,7 @@ module _ (n k : ℕ) (small : n ≤ 9) (two : 2 ≤ n) (high : 8 ≤ k) (v : ℕ
       pigeonhole (half n k) (half_once n k small high) (map v (span 0 n))
       (λ c m. let w = Memᴰ.of_map v (span 0 n) m in let r = span_in 0 n w.0 w.1 in subst (λ x. Memᴰ x (half n k)) w.2
       (known w.0 (omega arith)))
-      (length_map (span 0 n) v ∙ span_length 0 n ∙ sym (half_length n k two))
+      (length-map (span 0 n) v ∙ span_length 0 n ∙ sym (half_length n k two))
       (λ d _. rw (count_map (eqb d) v (span 0 n)) (count_most (λ i. eqb d (v i)) (span 0 n) (span_is_once 0 n) (λ i j mi mj t u.
       let ri = span_in 0 n i mi in let rj = span_in 0 n j mj in
       apart i j (omega arith) (omega arith) (sym (eqb-true d (v i) t) ∙ eqb-true d (v j) u))))

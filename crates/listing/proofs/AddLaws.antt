@@ -5,7 +5,7 @@ use mathlib.Core.Bool.{Bool, true, false, cond}
 use mathlib.Core.List.{List, [], ◌∷◌, ◌++◌, map, append_assoc, append-nil, map-append}
 use native.Mathlib.Omega.{arith}
 use lib.Dec.{ltb}
-use lib.ListN.{length, get_or, set, length-set, length-append, length_map}
+use lib.ListN.{length, get_or, set, length-set, length-append, length-map}
 use borrow.Author.Tests.{lt-ltb, le-ltb}
 use lib.Seq.{get_or-set_same, get_or-set_other}
 use Rattle.tally.specs.Tally.{span, keep, join}
@@ -55,7 +55,7 @@ module _ (f : ℕ → List ℕ) (ok : ℕ → Bool) (a m : ℕ) where
 -- ---- one after the other
 
 list_length : (l : List ℕ) (ℓ : ℕ) → length (list_of l ℓ) ≡ lives l ℓ
-list_length l ℓ = length_map (span 0 (lives l ℓ)) (λ j. live l ℓ j) ∙ span_length 0 (lives l ℓ)
+list_length l ℓ = length-map (span 0 (lives l ℓ)) (λ j. live l ℓ j) ∙ span_length 0 (lives l ℓ)
 
 -- the line has that many more
 pub added_lives : {n ℓ : ℕ} {l l' ids : List ℕ} → Added n ℓ l l' ids → lives l' ℓ ≡ lives l ℓ + length ids

@@ -1,4 +1,6 @@
 // The live arrangements of each line and their supports, before any strike (in the Rust: init_live_tuples).
+#![tactic(auto)]
+
 ghost use Rattle.std.specs.Prelude.{◌∷◌, [], ℕ, ◌≤◌, ◌<◌};
 ghost use Rattle.rules.specs.Check.{max_target};
 ghost use Rattle.words.specs.Word.{part, Known};

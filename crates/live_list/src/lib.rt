@@ -1,4 +1,6 @@
 // The live list of a line as records that are reordered where they are. Only this crate lends records: callers lend numbers.
+#![tactic(auto)]
+
 ghost use Rattle.std.specs.Prelude.{◌≡◌, ◌+◌, ◌<◌, ◌≤◌, length};
 ghost use Rattle.live_list.specs.Swap.{swapped, exchanged};
 

@@ -1,4 +1,6 @@
 // Marks: read from bytes, unpacked, and checked (they stand for take_branch and reject_branch of the Rust).
+#![tactic(auto)]
+
 ghost use Rattle.std.specs.Prelude.{◌≡◌, ◌+◌, ◌*◌, ◌≤◌, ◌<◌, length};
 ghost use Rattle.rules.specs.Mark.{marks_of};
 ghost use Rattle.rules.specs.Check.{refusal, check_mark};

@@ -1,4 +1,6 @@
 // Opening: every line lists its arrangements, then the candidates without support are struck (in the Rust: seed_queue).
+#![tactic(auto)]
+
 ghost use Rattle.std.specs.Prelude.{◌≡◌, ◌+◌, ◌*◌, ◌≤◌, ◌<◌, length};
 ghost use Rattle.slab.specs.Layout.{slab_size};
 ghost use Rattle.slab.specs.Slab.{Sized, Struck};

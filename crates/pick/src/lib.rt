@@ -1,5 +1,7 @@
 // The branching rule (in the Rust: pick_branching_cell and pick_branching_bit). Called once for each node of the search, some 250 ns at size 9.
 // Which cell and which value it takes is promised nowhere: the contract of `pick_branch` says what every rule has to keep.
+#![tactic(auto)]
+
 ghost use Rattle.std.specs.Prelude.{◌≡◌, ◌+◌, ◌*◌, ◌<◌};
 ghost use Rattle.slab.specs.Ready.{Ready};
 ghost use Rattle.pick.specs.Choice.{row_choices, Candidate, Picked};

@@ -1,4 +1,6 @@
 // The state of a puzzle after its marks: opened, propagated once as the Rust's constructor does, and marked.
+#![tactic(auto)]
+
 ghost use Rattle.rules.specs.Mark.{marks_of};
 ghost use Rattle.rules.specs.Grid.{puzzle};
 ghost use Rattle.prepare.specs.Prepared.{PrepareAsk, Prepared};

@@ -1,4 +1,6 @@
 // Propagation (in the Rust: run and its handlers): the strikes are handled in the order in which they were made, until none waits or a cell is empty.
+#![tactic(auto)]
+
 ghost use Rattle.invariants.specs.State.{PropagateAsk, Propagated};
 ghost use Rattle.propagate.specs.Update.{UpdateAsk, UpdateDone};
 

@@ -1,4 +1,6 @@
 // The checks of a puzzle: its size, the unit's limit, the lengths of its target slices, its targets (in the Rust: Puzzle::try_new and max_target).
+#![tactic(auto)]
+
 ghost use Rattle.std.specs.Prelude.{◌≡◌, leb};
 ghost use Rattle.tally.specs.Tally.{all};
 ghost use Rattle.rules.specs.Check.{refusal, max_target, puzzle_checks};

@@ -1,5 +1,7 @@
 // The fields of the record that a list begins with, and whether they are given bytes and numbers. A byte past the end of the list counts as 0, and a field
 // that is not whole is empty.
+#![tactic(auto)]
+
 ghost use Rattle.std.specs.Prelude.{◌≡◌, ◌∷◌, [], ◌≤◌, ◌<◌, length, get_or, take};
 ghost use Rattle.record_fields.specs.Fields.{field_start, field_count, field as Fields·field, record_size, number_from, readable};
 ghost use Rattle.record_fields.specs.Recorded.{Says, SumsRecorded, LongNumber, CountRecorded, BufferRecorded};

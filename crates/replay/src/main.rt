@@ -1,5 +1,7 @@
 // Replays the list of answers on standard input against the engine: a line for each call, a line for all, and where the first difference is, if
 // there is one. What cannot be read counts as one answer that differs.
+#![tactic(auto)]
+
 ghost use Rattle.std.specs.Prelude.{◌≡◌, length};
 
 use libc::{STDIN_FILENO, STDOUT_FILENO};

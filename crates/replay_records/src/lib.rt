@@ -1,5 +1,7 @@
 // Replays the list of answers that the oracle writes (oracle/README.md, "The list of answers"): a record is read, its call is run, and the answer
 // and every byte of the buffers are compared with the recorded ones. What cannot be read is a difference.
+#![tactic(auto)]
+
 mod calls;
 mod solver_calls;
 

@@ -5,7 +5,7 @@ use mathlib.Core.Bool.{Bool, ◌&&◌}
 use mathlib.Core.List.{List, [], ◌∷◌, ◌++◌, map, map-append, map-map}
 use native.Mathlib.Omega.{arith}
 use native.Mathlib.Nat.{add_comm, mul-one, add-zero}
-use lib.ListN.{length, get_or, length_map}
+use lib.ListN.{length, get_or, length-map}
 use lib.Seq.{ext_get_or}
 use Rattle.tally.specs.Tally.{span, all, join}
 use Rattle.tally.proofs.TallyLaws.{span_length, map_at}
@@ -32,7 +32,7 @@ strided_next start stride g k = map_next (λ j. get_or g (start + j * stride) 0)
 
 pub strided_length : (start stride : ℕ) (g : List ℕ) (k : ℕ) → length (strided start stride g k) ≡ k
 unfolding strided
-strided_length start stride g k = length_map (span 0 k) (λ j. get_or g (start + j * stride) 0) ∙ span_length 0 k
+strided_length start stride g k = length-map (span 0 k) (λ j. get_or g (start + j * stride) 0) ∙ span_length 0 k
 
 pub strided_at : (start stride : ℕ) (g : List ℕ) (k j : ℕ) → j < k → get_or (strided start stride g k) j 0 ≡ get_or g (start + j * stride) 0
 unfolding strided

@@ -1,7 +1,7 @@
 -- The strikes of set_cell's parts are those of setting the cell; the table after them. Assumes nothing.
 use Prim.Native.Nat.{ℕ, ◌+◌, ◌*◌, ◌/◌, ◌%◌, ◌≤◌, ◌<◌}
 use mathlib.Core.Path.{◌≡◌, refl, sym, ◌∙◌}
-use mathlib.Core.Bool.{Bool, true, false, not, ◌&&◌, true≢false, and_true, and_false}
+use mathlib.Core.Bool.{Bool, true, false, not, ◌&&◌, true≢false, and-true, and-false}
 use mathlib.Core.Logic.{◌≢◌, ◌⊎◌, inl, inr, ⊎_elim}
 use mathlib.Core.List.{List}
 use native.Mathlib.Omega.{arith}
@@ -158,10 +158,10 @@ set_table {l} {l'} r c v s i j w hi hj hw = go (strikes r c v i j w) refl (ℕ_d
 
     go : (b : Bool) → strikes r c v i j w ≡ b → Dec (cand l (i * 9 + j) w ≡ 1) → Dec (cand l' (i * 9 + j) w ≡ 0) → table_in l' i j w ≡
         (table_in l i j w && not (strikes r c v i j w))
-    go true t d e = rw t (no_table l' i j w (s.gone (i * 9 + j) w hw (rw (ei, ej) t)) ∙ sym (and_false (table_in l i j w)))
+    go true t d e = rw t (no_table l' i j w (s.gone (i * 9 + j) w hw (rw (ei, ej) t)) ∙ sym (and-false (table_in l i j w)))
     go false t (yes d) (yes e) = absurd (true≢false (sym (rw (ei, ej) at (s.only (i * 9 + j) w hw d e)) ∙ t))
     go false t (yes d) (no e) = rw t (yes_table l' i j w (omega (arith, cand_lt l' (i * 9 + j) w)) ∙ sym (yes_table l i j w d) ∙ sym
-        (and_true (table_in l i j w)))
+        (and-true (table_in l i j w)))
     go false t (no d) e =
         let z : cand l (i * 9 + j) w ≡ 0 = omega (arith, cand_lt l (i * 9 + j) w) in
-        rw t (no_table l' i j w (omega (arith, s.grown.sub (i * 9 + j) w hw)) ∙ sym (no_table l i j w z) ∙ sym (and_true (table_in l i j w)))
+        rw t (no_table l' i j w (omega (arith, s.grown.sub (i * 9 + j) w hw)) ∙ sym (no_table l i j w z) ∙ sym (and-true (table_in l i j w)))

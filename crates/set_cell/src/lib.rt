@@ -1,4 +1,6 @@
 // Setting a cell to a value strikes what the rules of the puzzle then leave out (in the Rust: set_cell).
+#![tactic(auto)]
+
 ghost use Rattle.std.specs.Prelude.{◌≡◌, ◌≤◌, ◌<◌};
 ghost use Rattle.table.specs.Table.{in_column, in_row};
 ghost use Rattle.slab.specs.Slab.{Struck};

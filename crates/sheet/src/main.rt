@@ -1,5 +1,7 @@
 // Answers the puzzles on standard input, line by line, on standard output (docs/INTERFACE.md, "The program `sheet`").
 // What is read and written is not in any contract: text_stream says what the bytes are, and here they are only handed on.
+#![tactic(auto)]
+
 ghost use Rattle.std.specs.Prelude.{◌≡◌, ◌≤◌, length};
 ghost use Rattle.text_stream.specs.Stream.{KeptFits};
 

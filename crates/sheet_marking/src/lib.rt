@@ -1,4 +1,6 @@
 // Marking a sheet of cells against the targets of a puzzle: each of its lines has to keep the rules and its target.
+#![tactic(auto)]
+
 ghost use Rattle.std.specs.Prelude.{◌≡◌, ◌*◌, ◌^◌, length, get_or};
 ghost use Rattle.tally.specs.Tally.{all, span};
 ghost use Rattle.rules.specs.Grid.{digits_once, two_blacks, line_sum, meets, keeps_line, keeps, puzzle};

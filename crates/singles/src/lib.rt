@@ -1,5 +1,7 @@
 // The handlers of a strike's counters: the halves of its cell, the places of its value in its lines, and the blacks of its cell (in the Rust:
 // update_singleton, update_hidden_singles and update_black_consistency).
+#![tactic(auto)]
+
 ghost use Rattle.std.specs.Prelude.{◌≡◌, ◌<◌};
 ghost use Rattle.singles.specs.Handling.{HalfAsk, HalfDone, SingletonAsk, SingletonDone, FindAsk, PlaceFound, PlacesAsk, PlacesDone, HiddenAsk, HiddenDone, black_of, BlacksAsk, BlacksDone, ConsistencyAsk, ConsistencyDone};
 

@@ -1,6 +1,8 @@
 // The state of the queue solver in one slice of numbers, and its primitives (in the Rust: QueueSolverState and clear_mask).
 // What stands where is said twice, by the same names: here for the code, in specs/Layout.antt for the definitions.
 // A cell has the place row * 9 + column, a line the number row or 9 + column, at every size.
+#![tactic(auto)]
+
 ghost use Rattle.std.specs.Prelude.{◌≡◌, ◌-◌, ◌<◌, get_or, set};
 ghost use Rattle.slab.specs.Slab.{Sized, Struck, One, Masked, StrikeAsk, CounterAsk};
 

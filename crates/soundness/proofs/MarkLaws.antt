@@ -1,7 +1,7 @@
 -- Marks: what accepted ones say, which grids they leave, and which candidates. Assumes nothing.
 use Prim.Native.Nat.{ℕ, ◌-◌, ◌≤◌}
 use mathlib.Core.Path.{◌≡◌, refl, sym, ap, ◌∙◌, subst}
-use mathlib.Core.Bool.{true, false, not, ◌&&◌, ◌||◌, cond, true≢false, and_assoc, and_true}
+use mathlib.Core.Bool.{true, false, not, ◌&&◌, ◌||◌, cond, true≢false, and_assoc, and-true}
 use mathlib.Core.Logic.{◌≢◌, ⊎_elim}
 use mathlib.Core.List.Memᴰ
 use mathlib.Core.List.{List, [], ◌∷◌, Memᴰ}
@@ -88,7 +88,7 @@ module _ (p : Puzzle) (small : p.size ≤ 9) where
   pub marks_fits : (t : Table) (ms : List ℕ) → ((m : ℕ) → Memᴰ m ms → AcceptedMark p.size m) → (g : List ℕ) → GridOf p g →
       fits p.size (marked_all t ms) g ≡ (fits p.size t g && keeps_marks p.size ms g)
   unfolding marked_all all
-  marks_fits t [] a g d = sym (and_true (fits p.size t g))
+  marks_fits t [] a g d = sym (and-true (fits p.size t g))
   marks_fits t (m ∷ ms) a g d =
       marks_fits (marked t m) ms (λ x k. a x (Memᴰ.tail k)) g d
       ∙ ap (λ b. b && all (keeps_mark p.size g) ms) (marked_fits t m (a m (Memᴰ.head refl)) g d)

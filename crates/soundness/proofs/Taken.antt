@@ -1,7 +1,7 @@
 -- Setting a cell and striking a candidate: which grids still fit, and how a branch shares them out. Assumes nothing.
 use Prim.Native.Nat.{ℕ, suc, ◌+◌, ◌-◌, ◌≤◌, ◌<◌, min}
 use mathlib.Core.Path.{◌≡◌, refl, sym, ap, ap₂, ◌∙◌, subst}
-use mathlib.Core.Bool.{Bool, true, false, not, ◌&&◌, ◌||◌, true≢false, and_assoc, and_false, or-true}
+use mathlib.Core.Bool.{Bool, true, false, not, ◌&&◌, ◌||◌, true≢false, and_assoc, and-false, or-true}
 use mathlib.Core.Logic.{◌≢◌, ◌⊎◌, inl, inr, ⊎_elim}
 use mathlib.Core.List.{List, Memᴰ}
 use native.Mathlib.Omega.{arith}
@@ -173,11 +173,11 @@ same_half_lem n z (down c) v w mv mw = rw (column_value n v z mv, column_value n
 -- What is struck is gone, and nothing is added.
 pub taken_gone : (t : Table) (r c v i j w : ℕ) → strikes r c v i j w ≡ true → taken t r c v i j w ≡ false
 unfolding taken
-taken_gone t r c v i j w e = rw (e, and_false (t i j w))
+taken_gone t r c v i j w e = rw (e, and-false (t i j w))
 
 pub struck_gone : (t : Table) (r c v : ℕ) → struck t r c v r c v ≡ false
 unfolding struck
-struck_gone t r c v = rw (eq-eqb r r refl, eq-eqb c c refl, eq-eqb v v refl, and_false (t r c v))
+struck_gone t r c v = rw (eq-eqb r r refl, eq-eqb c c refl, eq-eqb v v refl, and-false (t r c v))
 
 pub taken_within : (n : ℕ) (t : Table) (r c v : ℕ) → Within n (taken t r c v) t
 unfolding taken

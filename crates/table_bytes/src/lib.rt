@@ -1,4 +1,6 @@
 // A table of candidates in bytes: how many entries it has, how many are lent for it, and the entries written.
+#![tactic(auto)]
+
 ghost use Rattle.std.specs.Prelude.{◌≡◌, ◌*◌, min, length};
 ghost use Rattle.table.specs.Table.{entries_of};
 ghost use Rattle.table_bytes.specs.Entries.{entry_count, most_lent};

@@ -66,9 +66,10 @@ module _ {A : Type 0} where
   of_map f (y ∷ ys) (Memᴰ.tail m) = let r = of_map f ys m in (r.0, Memᴰ.tail r.1, r.2)
 
 module _ {A : Type 0} where
-  in_front_lem : {s : List A} {r : List (List A)} {c : A} {l : List A} → Memᴰ c s → Memᴰ l r → Memᴰ (c ∷ l) (in_front s r)
+  in_front_lem : {c : A} {s : List A} {r : List (List A)} {l : List A} → Memᴰ c s → Memᴰ l r → Memᴰ (c ∷ l) (in_front s r)
   unfolding in_front
-  in_front_lem {s = d ∷ s} {r} {c} {l} (Memᴰ.head e) m = Memᴰ.append_left (in_front s r) (Memᴰ.cast (ap (λ x. x ∷ l) e) (Memᴰ.map (λ l. d ∷ l) m))
+  in_front_lem {c} {s = []} {r} {l} k m = elim k [ ]
+  in_front_lem {c} {s = d ∷ s} {r} {l} (Memᴰ.head e) m = Memᴰ.append_left (in_front s r) (Memᴰ.cast (ap (λ x. x ∷ l) e) (Memᴰ.map (λ l. d ∷ l) m))
   in_front_lem {s = d ∷ s} {r} (Memᴰ.tail k) m = Memᴰ.append_right (map (λ l. d ∷ l) r) (in_front_lem k m)
 
   of_front : (s : List A) (r : List (List A)) {x : List A} → Memᴰ x (in_front s r) → (c : A) × (l : List A) × Memᴰ c s × Memᴰ l r × (x ≡ c ∷ l)

@@ -1,5 +1,7 @@
 // Target sums of a grid of cells (in the Rust: grid.rs, compute_targets). A line is read by its start and its stride, so that rows and columns
 // are one case.
+#![tactic(auto)]
+
 ghost use Rattle.std.specs.Prelude.{◌≡◌, ◌≤◌, length, drop};
 ghost use Rattle.tally.specs.Tally.{sum, join};
 ghost use Rattle.rules.specs.Grid.{until_black, line_sum};

@@ -7,7 +7,7 @@ use native.Mathlib.Omega.{arith}
 use native.Mathlib.Nat.{mul-le-mul, mul-le-mul_right}
 use native.Mathlib.Numerals.{add-one}
 use lib.Dec.{eqb}
-use lib.ListN.{length, get_or, take, drop, length-take, length-drop, length_map, take-append-drop}
+use lib.ListN.{length, get_or, take, drop, length-take, length-drop, length-map, take-append-drop}
 use lib.Seq.{take-suc, get_or-drop}
 use borrow.Author.Tests.{eq-eqb, ne_eqb}
 use Rattle.tally.specs.Tally.{all, span}
@@ -127,6 +127,6 @@ module _ {n : ℕ} {g out l : List ℕ} {at r : ℕ} (a : GridAsk n g (length ou
       joined_next (row_text n g) r ∙ ap (λ t. joined (map (row_text n g) (span 0 r)) ++ led r (map cell_text t)) row_is in
       record {
         put = rw e (put_both w.put v);
-        short = omega (arith, v.count, led_long r (map cell_text cells), length_map cells cell_text, cells_long, w.short, a.size);
+        short = omega (arith, v.count, led_long r (map cell_text cells), length-map cells cell_text, cells_long, w.short, a.size);
         low = omega arith;
       }

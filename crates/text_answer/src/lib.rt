@@ -1,4 +1,6 @@
 // The text of an answer of `sheet`, written to the front of a buffer.
+#![tactic(auto)]
+
 ghost use Rattle.std.specs.Prelude.{◌≡◌, ◌++◌, map, ◌≤◌, length};
 ghost use Rattle.text_rules.specs.Text.{refused_word, number_text, cell_text, grid_text};
 ghost use Rattle.text_answer.specs.Put.{Put, Shown, led, CellsAsk, RowAsk, GridAsk, SolvedAsk};

@@ -1,4 +1,6 @@
 // The answer to one line of `sheet`.
+#![tactic(auto)]
+
 ghost use Rattle.std.specs.Prelude.{length, take, drop};
 ghost use Rattle.text_answer.specs.Put.{Put};
 ghost use Rattle.rules.specs.Grid.{puzzle};

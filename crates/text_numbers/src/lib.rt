@@ -1,4 +1,6 @@
 // The numbers of a line of `sheet`, read from its bytes.
+#![tactic(auto)]
+
 ghost use Rattle.std.specs.Prelude.{◌≡◌, ◌≤◌, length};
 ghost use Rattle.text_rules.specs.Fields.{shaped as Fields·shaped};
 ghost use Rattle.text_numbers.specs.Read.{FieldEnd, value_or, decimal_or, NumbersRead};

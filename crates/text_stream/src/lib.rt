@@ -1,5 +1,7 @@
 // The lines of a stream of bytes, block by block, and the texts that answer them.
 // Of a line that is not ended yet its first 81 bytes are kept: a longer line is refused for its length alone.
+#![tactic(auto)]
+
 ghost use Rattle.std.specs.Prelude.{length};
 ghost use Rattle.text_stream.specs.Fed.{KeptAsk, EndAsk, BytesAsk, ByteKept, LineEnded, ByteFed, BytesFed};
 ghost use Rattle.text_stream.specs.Stream.{Begun, FeedAsk, BlockFed, LastGiven};

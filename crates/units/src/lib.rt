@@ -1,4 +1,6 @@
 // Units: the hall and the classrooms, each with its limits.
+#![tactic(auto)]
+
 ghost use Rattle.std.specs.Prelude.{◌≡◌};
 ghost use Rattle.units.specs.Limits.{hall, classroom, takes_size, takes_list, list_limit};
 

@@ -1,5 +1,7 @@
 // The values of a cell, and the masks of its candidates by the size (in the Rust: CellDomain and the masks of QueueSolverState).
 // Inside the engine a value is its own candidate bit: digit d is bit d, and the four blacks are bits 8 to 11 at every size.
+#![tactic(auto)]
+
 ghost use Rattle.std.specs.Prelude.{◌≡◌};
 ghost use Rattle.rules.specs.Grid.{digits};
 ghost use Rattle.rules.specs.Check.{named};

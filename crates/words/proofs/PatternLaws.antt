@@ -2,7 +2,7 @@
 use Prim.Native.Nat.{ℕ, zero, suc, ◌^◌, min, max, ◌≤◌, ◌<◌}
 use mathlib.Core.Path.{◌≡◌, refl, sym, ap, ◌∙◌}
 use mathlib.Core.Logic.{◌⊎◌, inl, inr, ⊎_elim}
-use mathlib.Core.Bool.{Bool, true, false, ◌&&◌, cond, true≢false, and_true, and_false}
+use mathlib.Core.Bool.{Bool, true, false, ◌&&◌, cond, true≢false, and-true, and-false}
 use native.Mathlib.Omega.{arith}
 use native.Mathlib.Decide.{dec_lt, ℕ_discrete}
 use lib.Dec.{eqb}
@@ -83,7 +83,7 @@ module _ (n k w : ℕ) (s : Shaped n w) (h : 8 ≤ k) where
 
   -- no digit lies at a place that is not an inner one
   none : (p v : ℕ) → v < 8 → bit p (inner_of w) ≡ 0 → pattern k w p v ≡ false
-  none p v l e = pattern_digit k w p v l ∙ rw (ne_eqb (bit p (inner_of w)) 1 (omega arith)) (and_false (eqb (bit v (set_of w)) 1))
+  none p v l e = pattern_digit k w p v l ∙ rw (ne_eqb (bit p (inner_of w)) 1 (omega arith)) (and-false (eqb (bit v (set_of w)) 1))
 
   -- a black at the place of the first black, of the second, and elsewhere
   at_first : (v : ℕ) → 8 ≤ v → pattern k w (first_of w) v ≡ eqb v k
@@ -93,7 +93,7 @@ module _ (n k w : ℕ) (s : Shaped n w) (h : 8 ≤ k) where
     where
       go : (a b : Bool) → cond a true (b && false) ≡ a
       go true b = refl
-      go false b = and_false b
+      go false b = and-false b
 
   at_second : (v : ℕ) → 8 ≤ v → pattern k w (second_of w) v ≡ eqb v (suc k)
   at_second v l =
@@ -102,14 +102,14 @@ module _ (n k w : ℕ) (s : Shaped n w) (h : 8 ≤ k) where
     where
       go : Dec (v ≡ k) → cond (eqb v k) false (eqb v (suc k) && true) ≡ eqb v (suc k)
       go (yes e) = rw (eq-eqb v k e, ne_eqb v (suc k) (omega arith))
-      go (no e) = rw (ne_eqb v k e) (and_true (eqb v (suc k)))
+      go (no e) = rw (ne_eqb v k e) (and-true (eqb v (suc k)))
 
   elsewhere : (p v : ℕ) → 8 ≤ v → (first_of w ≡ p → ⊥) → (second_of w ≡ p → ⊥) → pattern k w p v ≡ false
   elsewhere p v l a b = pattern_black k w p v l ∙ rw (ne_eqb (first_of w) p a, ne_eqb (second_of w) p b) (go (eqb v k) (eqb v (suc k)))
     where
       go : (a b : Bool) → cond a false (b && false) ≡ false
       go true b = refl
-      go false b = and_false b
+      go false b = and-false b
 
   off_ends : (p : ℕ) → (p ≡ from_of w → ⊥) → (p ≡ to_of w → ⊥) → (first_of w ≡ p → ⊥) × (second_of w ≡ p → ⊥)
   unfolding from_of to_of
@@ -162,7 +162,7 @@ module _ (n k w : ℕ) (s : Shaped n w) (h : 8 ≤ k) where
     not_to e = let l : steps n (from_of w) (to_of w) < steps n (from_of w) (to_of w) = rw e at b in omega arith
 
     pub pattern_inner : (v : ℕ) → v < 8 → pattern k w p v ≡ eqb (bit v (set_of w)) 1
-    pattern_inner v l = pattern_digit k w p v l ∙ rw (eq-eqb (bit p (inner_of w)) 1 (s.between p hp a b)) (and_true (eqb (bit v (set_of w)) 1))
+    pattern_inner v l = pattern_digit k w p v l ∙ rw (eq-eqb (bit p (inner_of w)) 1 (s.between p hp a b)) (and-true (eqb (bit v (set_of w)) 1))
 
     pub pattern_inner_black : (v : ℕ) → 8 ≤ v → pattern k w p v ≡ false
     pattern_inner_black v l = let o = off_ends p not_from not_to in elsewhere p v l o.0 o.1

@@ -1,6 +1,8 @@
 // Arrangements of a line by number, and each of them packed into one word (in the Rust: the arrangements of QueueSolver, with their cells and patterns).
 // An arrangement has the number subset * 9 + start. A word has its set of digits in bits 0 to 7 (digit d is bit d), its inner places in bits 8 to 16, the
 // places of the line's first and second black in bits 17 to 20 and 21 to 24, and bit 25 if it begins with the second one, around the line's end.
+#![tactic(auto)]
+
 ghost use Rattle.std.specs.Prelude.{◌≡◌, ◌+◌, ◌≤◌, ◌<◌, length};
 ghost use Rattle.rules.specs.Size.{Size};
 ghost use Rattle.words.specs.Word.{from_sum, set_of, first_of, second_of, covered_of, inner_places, word_from, from_of, to_of, head_of, last_of, shift_of, on_side, Words};

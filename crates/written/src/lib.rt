@@ -1,5 +1,7 @@
 // The solver's table and grid, written for the caller row by row: n * n masks of candidates, and n * n cells (in the Rust: solved_cells).
 // Called once for each call of the library, for at most 81 entries: its time does not matter.
+#![tactic(auto)]
+
 ghost use Rattle.std.specs.Prelude.{◌≡◌, ◌*◌, length};
 ghost use Rattle.table.specs.Reading.{read_off};
 ghost use Rattle.slab.specs.Slab.{table_in};
