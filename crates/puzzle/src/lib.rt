@@ -16,7 +16,7 @@ pub fn wide(c: u8) -> usize
     c as usize
 }
 
-pub fn size_ok(n: usize) -> bool
+pub fn size_fits(n: usize) -> bool
     ensures { result ≡ size_fits n }
 {
     if n < 2 { false } else { n <= 9 }

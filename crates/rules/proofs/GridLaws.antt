@@ -1,14 +1,14 @@
 -- The lines of a grid as a list: each is in it, and a test of all of them is a test of the rows and of the columns. Assumes nothing.
 use Prim.Native.Nat.{ℕ, zero, suc, ◌+◌, ◌-◌, ◌*◌, ◌≤◌, ◌<◌}
 use lib.Dec.{eqb}
-use mathlib.Core.Path.{◌≡◌, ap, ap₂, ◌∙◌, subst, sym}
+use mathlib.Core.Path.{◌≡◌, ap₂, ◌∙◌, subst, sym}
 use mathlib.Core.Logic.{⊎_elim}
 use mathlib.Core.Bool.{Bool, true, ◌&&◌}
 use mathlib.Core.List.Memᴰ
-use mathlib.Core.List.{List, map, Memᴰ}
+use mathlib.Core.List.{List, ◌∷◌, map, Memᴰ}
 use native.Mathlib.Omega.{arith}
 use native.Mathlib.Nat.{mul-le-mul_right}
-use Rattle.tally.specs.Tally.{one_if, span, all, count}
+use Rattle.tally.specs.Tally.{span, all, count}
 use Rattle.tally.specs.Way.{Way}
 use Rattle.tally.proofs.TallyLaws.{Once, all_append, span_in, span_mem, span_length, span_past, span_once, bit_ne}
 use Rattle.tally.proofs.WayLaws.{of_map, all_each, all_of_map, way_cell, way_map, way_in, in_way}
@@ -61,10 +61,13 @@ module _ (n : ℕ) (g : List ℕ) (w : Way (symbols n) (n * n) g) where
 -- ---- a solution is a way that is right
 
 -- black and the digits are different values
+black_once : (n : ℕ) → n ≤ 9 → count (eqb black) (black ∷ digits n) ≡ 1
+unfolding count digits
+black_once n h = let none : count (eqb black) (digits n) ≡ 0 = span_past 1 (n - 2) 255 (omega arith) in omega arith
+
 pub symbols_once : (n : ℕ) → n ≤ 9 → Once (symbols n)
 unfolding Once digits count
-symbols_once n h c (Memᴰ.head e) =
-    rw e (let none : count (eqb black) (digits n) ≡ 0 = span_past 1 (n - 2) 255 (omega arith) in ap (λ k. one_if (eqb black black) + k) none)
+symbols_once n h c (Memᴰ.head e) = subst (λ k. count (eqb k) (symbols n) ≡ 1) (sym e) (black_once n h)
 symbols_once n h c (Memᴰ.tail m) =
     let r = span_in 1 (n - 2) c m in omega (arith, bit_ne c black (omega arith), span_once 1 (n - 2) c r.0 r.1)
 

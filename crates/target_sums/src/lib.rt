@@ -11,7 +11,7 @@ ghost use Rattle.rules.specs.Strided.{strided, each};
 ghost use Rattle.target_sums.specs.Answer.{SumsAnswered, number_of};
 ghost use Rattle.target_sums.specs.Scanning.{Seen, Small, OneMore, BehindBlack, LineAsk, ToBlackAsk, LinesInside, SumsAsk};
 
-use puzzle::{size_ok, targets_fit, wide};
+use puzzle::{size_fits, targets_fit, wide};
 use units::Unit;
 
 #[derive(Drop)]

@@ -7,7 +7,7 @@ ghost use Rattle.rules.specs.Grid.{puzzle};
 ghost use Rattle.text_line.specs.Line.{LineGiven, solved_text, AnswerAsk, SolveTargetsAsk, TargetsAsk, NumbersAsk, PuzzleText, NumbersText};
 
 use engine::{Solved, solve};
-use puzzle::{size_ok, wide};
+use puzzle::{size_fits, wide};
 use text_answer::{write_refused, write_solved, write_text};
 use text_numbers::read_numbers;
 use units::Unit;

@@ -23,13 +23,13 @@ same_length : tie.Need-same-length
 same_length c = search rules
 
 returns : tie.Need-returns
-returns c = numbers_1 c.before.before.before.before.before.before.wide.ensures (said_no _ _ c.before.before.before.before.before.size_ok.ensures c.before.before.before.before.if1.true) c.before.before.write-refused.ensures
+returns c = numbers_1 c.before.before.before.before.before.before.wide.ensures (said_no _ _ c.before.before.before.before.before.size_fits.ensures c.before.before.before.before.if1.true) c.before.before.write-refused.ensures
 
 mul-if2 : tie.Need-overflow-mul-if2
-mul-if2 c = omega (arith, size_in c.before.before.wide.result (said_yes _ _ c.before.size_ok.ensures c.if1.false))
+mul-if2 c = omega (arith, size_in c.before.before.wide.result (said_yes _ _ c.before.size_fits.ensures c.if1.false))
 
 add-if2 : tie.Need-overflow-add-if2
-add-if2 c = omega (arith, size_in c.before.before.wide.result (said_yes _ _ c.before.size_ok.ensures c.if1.false))
+add-if2 c = omega (arith, size_in c.before.before.wide.result (said_yes _ _ c.before.size_fits.ensures c.if1.false))
 
 write-refused-requires-2 : tie.Need-write-refused-requires-2
 write-refused-requires-2 c κs = search rules
@@ -38,7 +38,7 @@ same-length-2 : tie.Need-same-length-2
 same-length-2 c = search rules
 
 returns-2 : tie.Need-returns-2
-returns-2 c = numbers_2 c.before.before.before.before.before.before.before.wide.ensures c.before.before.before.before.before.before.before.before.before.before.before.requires (said_yes _ _ c.before.before.before.before.before.before.size_ok.ensures c.before.before.before.before.before.if1.false) c.before.before.before.before.if2.true c.before.before.write-refused2.ensures
+returns-2 c = numbers_2 c.before.before.before.before.before.before.before.wide.ensures c.before.before.before.before.before.before.before.before.before.before.before.requires (said_yes _ _ c.before.before.before.before.before.before.size_fits.ensures c.before.before.before.before.before.if1.false) c.before.before.before.before.if2.true c.before.before.write-refused2.ensures
 
 sub-answer-targets : tie.Need-overflow-sub-answer-targets
 sub-answer-targets c = search rules
@@ -50,13 +50,13 @@ part-answer-targets-end : tie.Need-slice-bounds-answer-targets-end
 part-answer-targets-end c = search rules
 
 answer-targets-requires : tie.Need-answer-targets-requires
-answer-targets-requires c κs = numbers_ask c.before.before.before.before.before.wide.ensures c.before.before.before.before.before.before.before.before.before.requires (said_yes _ _ c.before.before.before.before.size_ok.ensures c.before.before.before.if1.false) c.before.before.if2.false
+answer-targets-requires c κs = numbers_ask c.before.before.before.before.before.wide.ensures c.before.before.before.before.before.before.before.before.before.requires (said_yes _ _ c.before.before.before.before.size_fits.ensures c.before.before.before.if1.false) c.before.before.if2.false
 
 same-length-3 : tie.Need-same-length-3
 same-length-3 c = search rules
 
 returns-3 : tie.Need-returns-3
-returns-3 c = numbers_text c.before.before.before.before.before.before.before.before.wide.ensures c.before.before.before.before.before.before.before.before.before.before.before.before.requires (said_yes _ _ c.before.before.before.before.before.before.before.size_ok.ensures c.before.before.before.before.before.before.if1.false) c.before.before.before.before.before.if2.false c.before.before.answer-targets.ensures
+returns-3 c = numbers_text c.before.before.before.before.before.before.before.before.wide.ensures c.before.before.before.before.before.before.before.before.before.before.before.before.requires (said_yes _ _ c.before.before.before.before.before.before.before.size_fits.ensures c.before.before.before.before.before.before.if1.false) c.before.before.before.before.before.if2.false c.before.before.answer-targets.ensures
 
 pub answer-numbers-spec : {M : Type 1} → statement M
 answer-numbers-spec =
