@@ -15,7 +15,7 @@ use Rattle.table.specs.Table.{Table}
 use Rattle.table.specs.Steps.{struck, taken, marked, marked_all}
 use Rattle.soundness.proofs.MarkLaws.{accepted}
 use Rattle.soundness.specs.Marks.{AcceptedMark}
-use Rattle.slab.specs.Slab.{table_in, Sized, Struck, One}
+use Rattle.queue_state.specs.Slab.{table_in, Sized, Struck, One}
 use Rattle.table.specs.Value.{ValueOf}
 use Rattle.set_cell.specs.Setting.{SetHit, SetAsk}
 use Rattle.set_cell.proofs.SetLaws.{set_table}

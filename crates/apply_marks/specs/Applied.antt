@@ -6,7 +6,7 @@ use Rattle.rules.specs.Check.{refusal}
 use Rattle.rules.specs.CheckParts.{mark_checks}
 use Rattle.table.specs.Steps.{marked_all}
 use Rattle.soundness.specs.Marks.{AcceptedMark}
-use Rattle.slab.specs.Slab.{table_in}
+use Rattle.queue_state.specs.Slab.{table_in}
 use Rattle.invariants.specs.State.{Kept, Lagging}
 
 -- A state, and a mark of its size.

@@ -6,8 +6,8 @@ ghost use Rattle.rules.specs.Mark.{marks_of};
 ghost use Rattle.apply_marks.specs.Applied.{MarkAsk, MarksAsk, MarksApplied};
 
 use mark_list::{Mark, mark_at, mark_count};
+use queue_state::clear_value;
 use set_cell::set_cell;
-use slab::clear_value;
 
 // Strikes the value of a rejecting mark, sets the cell to that of a taking one.
 fn apply_mark(st: &mut [u16], n: usize, word: u16)

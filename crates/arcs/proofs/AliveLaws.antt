@@ -8,12 +8,12 @@ use native.Mathlib.Decide.{ℕ_discrete, dec_lt}
 use native.Mathlib.Nat.{le_trans}
 use Rattle.bits.proofs.SumLaws.{same_no, sum_same, sum_has}
 use Rattle.rules.specs.Size.{Size}
-use Rattle.slab.specs.Layout.{per_line}
-use Rattle.slab.specs.Slab.{cand, tail, lag, Grown}
-use Rattle.slab.proofs.SlabLaws.{cand_lt}
-use Rattle.slab.proofs.StruckLaws.{grown_refl, grown_trans, grown_gone}
-use Rattle.slab.proofs.ReadyLaws.{lag_pop}
-use Rattle.slab.specs.Ready.{Next}
+use Rattle.queue_state.specs.Layout.{per_line}
+use Rattle.queue_state.specs.Slab.{cand, tail, lag, Grown}
+use Rattle.queue_state.proofs.SlabLaws.{cand_lt}
+use Rattle.queue_state.proofs.StruckLaws.{grown_refl, grown_trans, grown_gone}
+use Rattle.queue_state.proofs.ReadyLaws.{lag_pop}
+use Rattle.queue_state.specs.Ready.{Next}
 use Rattle.words.specs.Word.{Known, word_of, part}
 use Rattle.arcs.specs.Arc.{lives, live, support, Tallied, Served, Alive, DeadArrangement, Held, Holding}
 use Rattle.table.specs.Value.{HalfOf}

@@ -7,11 +7,11 @@ use native.Mathlib.Omega.{arith}
 use native.Mathlib.Decide.{ℕ_discrete, dec_lt}
 use lib.ListN.{length}
 use borrow.Author.Tests.{lt-ltb, le-ltb}
-use Rattle.slab.specs.Layout.{slab_size}
-use Rattle.slab.specs.Slab.{cand, tail}
-use Rattle.slab.proofs.StruckLaws.{grown_gone}
-use Rattle.slab.proofs.ReadyLaws.{ready_grown, next_grown}
-use Rattle.slab.specs.Ready.{Next}
+use Rattle.queue_state.specs.Layout.{slab_size}
+use Rattle.queue_state.specs.Slab.{cand, tail}
+use Rattle.queue_state.proofs.StruckLaws.{grown_gone}
+use Rattle.queue_state.proofs.ReadyLaws.{ready_grown, next_grown}
+use Rattle.queue_state.specs.Ready.{Next}
 use Rattle.table.specs.Value.{ValueOf, HalfOf}
 use Rattle.lane.specs.declared.Lane.{Lane}
 use Rattle.lane.specs.Lanes.{row_lane, column_lane}

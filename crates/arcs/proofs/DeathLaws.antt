@@ -12,8 +12,8 @@ use Rattle.bits.specs.Bit.{bit}
 use Rattle.bits.proofs.BitLaws.{bit_lt}
 use Rattle.rules.specs.Size.{Size}
 use Rattle.table.specs.Closed.{place, allows}
-use Rattle.slab.specs.Slab.{cand, Grown}
-use Rattle.slab.proofs.SlabLaws.{cand_in}
+use Rattle.queue_state.specs.Slab.{cand, Grown}
+use Rattle.queue_state.proofs.SlabLaws.{cand_in}
 use Rattle.lane.specs.declared.Lane.{Lane}
 use Rattle.words.specs.Word.{mask_in, size_in, Known, arrangement_of, word_of, set_of, inner_of, covered_of, from_of, to_of, steps, pattern, part}
 use Rattle.words.proofs.WordFacts.{mask_even}

@@ -10,7 +10,7 @@ use Rattle.bits.specs.Bit.{bit}
 use Rattle.bits.proofs.BitLaws.{bit_lt, bit_none, bit_le, bit_taken, bit_kept, shl_one, Lowest, trailing_lowest}
 use Rattle.bits.specs.Sum.{same}
 use Rattle.bits.proofs.SumLaws.{same_yes, same_no}
-use Rattle.slab.proofs.StruckLaws.{grown_sized}
+use Rattle.queue_state.proofs.StruckLaws.{grown_sized}
 use Rattle.arcs.specs.Sunk.{Sunk, single, masked, DropAsk, DigitsAsk}
 use Rattle.arcs.proofs.SunkLaws.{sunk_none, sunk_as, sunk_both}
 

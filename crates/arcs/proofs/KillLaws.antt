@@ -12,7 +12,7 @@ use Rattle.bits.specs.Bit.{bit}
 use Rattle.bits.proofs.BitLaws.{bit_lt, bit_le}
 use Rattle.bits.specs.Sum.{same}
 use Rattle.bits.proofs.SumLaws.{same_yes, same_no}
-use Rattle.slab.proofs.StruckLaws.{grown_sized, grown_trans}
+use Rattle.queue_state.proofs.StruckLaws.{grown_sized, grown_trans}
 use Rattle.lane.specs.declared.Lane.{Lane}
 use Rattle.words.specs.Word.{set_of, inner_of, from_of, to_of, head_of, last_of, part, steps}
 use Rattle.words.proofs.StepLaws.{steps_none, steps_zero, steps_same}

@@ -12,9 +12,9 @@ use Rattle.bits.specs.Sum.{sum_over}
 use Rattle.bits.proofs.SumLaws.{sum_has, sum_same}
 use Rattle.rules.specs.Size.{Size}
 use Rattle.table.specs.Table.{places}
-use Rattle.slab.specs.Slab.{cand, table_in, Grown}
-use Rattle.slab.proofs.SlabLaws.{cand_lt}
-use Rattle.slab.proofs.StruckLaws.{grown_gone}
+use Rattle.queue_state.specs.Slab.{cand, table_in, Grown}
+use Rattle.queue_state.proofs.SlabLaws.{cand_lt}
+use Rattle.queue_state.proofs.StruckLaws.{grown_gone}
 use Rattle.words.specs.Word.{Known, arrangement_of, word_of, part}
 use Rattle.words.proofs.Arranged.{digits_narrow, allows_narrow}
 use Rattle.words.proofs.PatternLaws.{part_none, part_other, pattern_past}

@@ -9,11 +9,11 @@ use native.Mathlib.Decide.{ℕ_discrete}
 use native.Mathlib.Nat.{le_trans}
 use lib.ListN.{length, get_or, get_or-eq_default}
 use Rattle.rules.specs.Size.{Size}
-use Rattle.slab.specs.Layout.{slab_size}
-use Rattle.slab.specs.Slab.{cand, tail, Grown}
-use Rattle.slab.proofs.SlabLaws.{cand_lt}
-use Rattle.slab.proofs.StruckLaws.{grown_trans}
-use Rattle.slab.specs.Ready.{Next}
+use Rattle.queue_state.specs.Layout.{slab_size}
+use Rattle.queue_state.specs.Slab.{cand, tail, Grown}
+use Rattle.queue_state.proofs.SlabLaws.{cand_lt}
+use Rattle.queue_state.proofs.StruckLaws.{grown_trans}
+use Rattle.queue_state.specs.Ready.{Next}
 use Rattle.words.specs.Word.{word_of, part}
 use Rattle.arcs.specs.Arc.{lives, live, Tallied, DeadArrangement, Listed, Fewer, Older, Holding, Unsupported, Pruned}
 use Rattle.table.specs.Lines.{cell_at, black_at, LineOf}

@@ -9,9 +9,9 @@ use Rattle.bits.specs.Sum.{sum_over}
 use Rattle.bits.proofs.SumLaws.{sum_has, same_yes, same_no}
 use Rattle.live_list.specs.Swap.{exchanged}
 use Rattle.live_list.proofs.SwapLaws.{exchanged_here, exchanged_other}
-use Rattle.slab.specs.Layout.{counters_at, per_line, live_place, support_place, slab_size}
-use Rattle.slab.specs.Slab.{cand, Grown}
-use Rattle.slab.proofs.StruckLaws.{grown_trans, grown_sized, grown_gone, set_cand, set_grown}
+use Rattle.queue_state.specs.Layout.{counters_at, per_line, live_place, support_place, slab_size}
+use Rattle.queue_state.specs.Slab.{cand, Grown}
+use Rattle.queue_state.proofs.StruckLaws.{grown_trans, grown_sized, grown_gone, set_cand, set_grown}
 use Rattle.lane.specs.declared.Lane.{Lane}
 use Rattle.words.specs.Word.{Known, word_of, part}
 use Rattle.words.proofs.PatternLaws.{part_lt}

@@ -8,10 +8,10 @@ use lib.ListN.{get_or, set}
 use lib.Seq.{get_or-set_same, get_or-set_other}
 use borrow.Author.Tests.{lt-ltb, le-ltb}
 use Rattle.bits.proofs.SumLaws.{same_yes, same_no}
-use Rattle.slab.specs.Layout.{counters_at, support_place}
-use Rattle.slab.specs.Slab.{cand, Sized, Grown, Struck, One, CounterAsk}
-use Rattle.slab.proofs.SlabLaws.{cand_lt}
-use Rattle.slab.proofs.StruckLaws.{grown_refl, grown_trans, grown_sized, grown_gone, set_cand, set_grown}
+use Rattle.queue_state.specs.Layout.{counters_at, support_place}
+use Rattle.queue_state.specs.Slab.{cand, Sized, Grown, Struck, One, CounterAsk}
+use Rattle.queue_state.proofs.SlabLaws.{cand_lt}
+use Rattle.queue_state.proofs.StruckLaws.{grown_refl, grown_trans, grown_sized, grown_gone, set_cand, set_grown}
 use Rattle.arcs.specs.Arc.{support}
 use Rattle.table.specs.Lines.{cell_at}
 use Rattle.arcs.specs.Sunk.{cell_of_place, Lost, Sunk, single, DropAsk}

@@ -9,11 +9,11 @@ use native.Mathlib.Decide.{ℕ_discrete}
 use lib.ListN.{length, get_or, set}
 use lib.Seq.{get_or-set_same, get_or-set_other}
 use Rattle.rules.specs.Size.{Size}
-use Rattle.slab.specs.Layout.{length_place, per_line, live_place, support_place, slab_size}
-use Rattle.slab.specs.Slab.{cand, Sized, Grown}
-use Rattle.slab.proofs.StruckLaws.{grown_refl, grown_trans, set_cand, set_grown}
-use Rattle.slab.proofs.ReadyLaws.{ready_grown, next_grown}
-use Rattle.slab.specs.Ready.{Ready, Next}
+use Rattle.queue_state.specs.Layout.{length_place, per_line, live_place, support_place, slab_size}
+use Rattle.queue_state.specs.Slab.{cand, Sized, Grown}
+use Rattle.queue_state.proofs.StruckLaws.{grown_refl, grown_trans, set_cand, set_grown}
+use Rattle.queue_state.proofs.ReadyLaws.{ready_grown, next_grown}
+use Rattle.queue_state.specs.Ready.{Ready, Next}
 use Rattle.lane.specs.declared.Lane.{Lane}
 use Rattle.words.specs.Word.{Known, word_of, part}
 use Rattle.arcs.specs.Arc.{lives, live, support, Tallied, Alive, DeadArrangement, Listed, Fewer, Older, Held, Holding}

@@ -8,10 +8,10 @@ use native.Mathlib.Omega.{arith}
 use lib.ListN.{length, get_or}
 use Rattle.bits.specs.Sum.{same}
 use Rattle.bits.proofs.SumLaws.{same_yes, same_no}
-use Rattle.slab.proofs.StruckLaws.{grown_gone}
+use Rattle.queue_state.proofs.StruckLaws.{grown_gone}
 use Rattle.lane.specs.declared.Lane.{Lane}
 use Rattle.words.specs.Word.{word_of, part, shift_of}
-use Rattle.slab.specs.Layout.{per_line, slab_size}
+use Rattle.queue_state.specs.Layout.{per_line, slab_size}
 use Rattle.arcs.specs.Arc.{live}
 use Rattle.table.specs.Value.{HalfOf}
 use Rattle.table.specs.Lines.{cell_at, black_at}

@@ -11,7 +11,7 @@ use borrow.Author.Tests.{lt-ltb, le-ltb}
 use Rattle.bits.specs.Bit.{bit}
 use Rattle.bits.proofs.BitLaws.{bit_lt}
 use Rattle.bits.proofs.SumLaws.{same_yes, same_no}
-use Rattle.slab.proofs.StruckLaws.{grown_sized}
+use Rattle.queue_state.proofs.StruckLaws.{grown_sized}
 use Rattle.lane.specs.declared.Lane.{Lane}
 use Rattle.words.specs.Word.{set_of, inner_of, from_of, to_of, steps, after}
 use Rattle.words.proofs.StepLaws.{steps_none, steps_lt, steps_same, steps_after, after_in}

@@ -4,9 +4,9 @@ use mathlib.Core.List.{List, Memᴰ}
 use Rattle.bits.specs.Sum.{sum_over}
 use Rattle.table.specs.Table.{places}
 use Rattle.table.specs.Closed.{place, allows}
-use Rattle.slab.specs.Layout.{lengths_at, length_place, per_line, live_place, support_place, slab_size}
-use Rattle.slab.specs.Slab.{cand, lag, table_in}
-use Rattle.slab.specs.Ready.{Ready, Next, Moved}
+use Rattle.queue_state.specs.Layout.{lengths_at, length_place, per_line, live_place, support_place, slab_size}
+use Rattle.queue_state.specs.Slab.{cand, lag, table_in}
+use Rattle.queue_state.specs.Ready.{Ready, Next, Moved}
 use Rattle.table.specs.Value.{ValueOf, HalfOf}
 use Rattle.words.specs.Word.{Known, arrangement_of, word_of, part, Words}
 use Rattle.table.specs.Lines.{line_at, cell_at, black_at, LineOf}

@@ -4,7 +4,7 @@ use Rattle.std.specs.Int.Bits.{bit_and, bit_or}
 use Rattle.bits.specs.Bit.{bit}
 use Rattle.lane.specs.declared.Lane.{Lane}
 use Rattle.words.specs.Word.{set_of, covered_of}
-use Rattle.slab.specs.Layout.{slab_size}
+use Rattle.queue_state.specs.Layout.{slab_size}
 
 -- A line of n places, from its start on.
 pub record HaveAsk (n : ℕ) (lane : Lane) (v : ℕ) (l : List ℕ) : Type 0 where

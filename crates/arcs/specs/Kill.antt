@@ -3,7 +3,7 @@ use Rattle.std.specs.Prelude.{ℕ, ◌+◌, ◌*◌, ◌/◌, ◌%◌, min, ◌�
 use Rattle.bits.specs.Bit.{bit}
 use Rattle.bits.specs.Sum.{same}
 use Rattle.rules.specs.Size.{Size}
-use Rattle.slab.specs.Slab.{Sized}
+use Rattle.queue_state.specs.Slab.{Sized}
 use Rattle.lane.specs.declared.Lane.{Lane}
 use Rattle.words.specs.Word.{set_of, inner_of, part, Shaped}
 use Rattle.arcs.specs.Arc.{support}

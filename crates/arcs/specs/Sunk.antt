@@ -2,8 +2,8 @@
 use Rattle.std.specs.Prelude.{ℕ, ◌+◌, ◌/◌, ◌%◌, min, ◌≤◌, ◌<◌, ◌≡◌, List, get_or}
 use Rattle.bits.specs.Bit.{bit}
 use Rattle.bits.specs.Sum.{same}
-use Rattle.slab.specs.Layout.{counters_at, support_place}
-use Rattle.slab.specs.Slab.{cand, Sized, Grown}
+use Rattle.queue_state.specs.Layout.{counters_at, support_place}
+use Rattle.queue_state.specs.Slab.{cand, Sized, Grown}
 use Rattle.arcs.specs.Arc.{support}
 use Rattle.table.specs.Lines.{cell_at}
 

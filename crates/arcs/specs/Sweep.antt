@@ -1,8 +1,8 @@
 -- A sweep over the live arrangements of one line. Assumes nothing.
 use Rattle.std.specs.Prelude.{ℕ, ◌+◌, ◌*◌, ◌/◌, ◌≤◌, ◌<◌, ◌≡◌, Bool, List, get_or}
-use Rattle.slab.specs.Layout.{counters_at, lengths_at, per_line, live_place, support_place}
-use Rattle.slab.specs.Slab.{cand, Grown}
-use Rattle.slab.specs.Ready.{Ready, Next}
+use Rattle.queue_state.specs.Layout.{counters_at, lengths_at, per_line, live_place, support_place}
+use Rattle.queue_state.specs.Slab.{cand, Grown}
+use Rattle.queue_state.specs.Ready.{Ready, Next}
 use Rattle.lane.specs.declared.Lane.{Lane}
 use Rattle.words.specs.Word.{word_of, part, Words}
 use Rattle.arcs.specs.Arc.{lives, live, support, Tallied, Alive, Fewer, Older, Holding, Unsupported}

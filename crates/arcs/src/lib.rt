@@ -2,7 +2,7 @@
 #![tactic(auto)]
 
 ghost use Rattle.std.specs.Prelude.{◌≡◌, ◌⊎◌, ◌+◌, ◌≤◌, ◌<◌, length, get_or};
-ghost use Rattle.slab.specs.Layout.{per_line, slab_size};
+ghost use Rattle.queue_state.specs.Layout.{per_line, slab_size};
 ghost use Rattle.words.specs.Word.{after};
 ghost use Rattle.arcs.specs.Kill.{parts, inners, InnerAsk, KillAsk};
 ghost use Rattle.arcs.specs.Arc.{live, ArcAsk, ArcDone};
@@ -11,7 +11,7 @@ ghost use Rattle.arcs.specs.Sweep.{RemoveAsk, Removed, SweepAsk, Swept, LineDone
 ghost use Rattle.arcs.specs.Sunk.{Sunk, single, masked, DropAsk, DigitsAsk};
 
 use lane::Lane;
-use slab::Slab;
+use queue_state::Slab;
 use value::{Value, wide};
 
 // A support falls; without support the candidate is struck.
@@ -19,8 +19,8 @@ fn drop_support(st: &mut [u16], place: usize, cell: usize, v: usize)
     requires { DropAsk st.old place cell v }
     ensures { Sunk (single place v) st.old st.new }
 {
-    if slab::lower(st, Slab::SUPPORT + place * 16 + v) == 0 {
-        slab::clear_value(st, cell, v);
+    if queue_state::lower(st, Slab::SUPPORT + place * 16 + v) == 0 {
+        queue_state::clear_value(st, cell, v);
     }
 }
 

@@ -13,8 +13,8 @@ use Rattle.settled.proofs.NoStall.{no_stall}
 use Rattle.settled.proofs.ReadLaws.{read_way}
 use Rattle.settled.proofs.SettledTable.{read_keeps, read_fits, settled_left}
 use Rattle.soundness.proofs.SameLaws.{same_left}
-use Rattle.slab.specs.Slab.{table_in}
-use Rattle.slab.specs.Ready.{Ready}
+use Rattle.queue_state.specs.Slab.{table_in}
+use Rattle.queue_state.specs.Ready.{Ready}
 use Rattle.words.specs.Word.{Words}
 use Rattle.invariants.specs.State.{Kept, Propagated}
 use Rattle.invariants.proofs.StateLaws.{within_sub}

@@ -14,9 +14,9 @@ use Rattle.soundness.proofs.SameLaws.{same_left, same_ext}
 use Rattle.soundness.specs.SameGrids.{Within}
 use Rattle.soundness.proofs.Taken.{branch_capped}
 use Rattle.soundness.proofs.Measures.{open_le, total_less, taken_open}
-use Rattle.slab.specs.Slab.{table_in, Struck, One}
-use Rattle.slab.proofs.ReadyLaws.{ready_valid}
-use Rattle.slab.specs.Ready.{Ready}
+use Rattle.queue_state.specs.Slab.{table_in, Struck, One}
+use Rattle.queue_state.proofs.ReadyLaws.{ready_valid}
+use Rattle.queue_state.specs.Ready.{Ready}
 use Rattle.set_cell.specs.Setting.{SetHit}
 use Rattle.set_cell.proofs.SetLaws.{set_table, yes_table, no_table}
 use Rattle.pick.specs.Choice.{Branch}

@@ -16,8 +16,8 @@ use Rattle.table.specs.Reading.{open_cells, total}
 use Rattle.soundness.proofs.SameLaws.{same_left, within_trans, within_refl, within_fits}
 use Rattle.soundness.specs.SameGrids.{Within}
 use Rattle.soundness.proofs.Measures.{open_le, total_le}
-use Rattle.slab.specs.Slab.{table_in, Struck, One}
-use Rattle.slab.specs.Ready.{Ready}
+use Rattle.queue_state.specs.Slab.{table_in, Struck, One}
+use Rattle.queue_state.specs.Ready.{Ready}
 use Rattle.invariants.specs.State.{Kept, PropagateAsk}
 use Rattle.invariants.proofs.StateLaws.{within_sub, kept_struck, lagging_struck}
 use Rattle.set_cell.specs.Setting.{SetHit, SetAsk}

@@ -5,8 +5,8 @@ use Rattle.table.specs.Table.{left, fits}
 use Rattle.table.specs.Reading.{read_off}
 use Rattle.line_laws.specs.Grids.{GridOf}
 use Rattle.soundness.specs.SameGrids.{SameGrids, Within}
-use Rattle.slab.specs.Slab.{table_in}
-use Rattle.slab.specs.Ready.{Ready}
+use Rattle.queue_state.specs.Slab.{table_in}
+use Rattle.queue_state.specs.Ready.{Ready}
 use Rattle.invariants.specs.State.{Kept, PropagateAsk}
 use Rattle.pick.specs.Choice.{Branch}
 use Rattle.backtrack.specs.declared.Next.{Next}

@@ -9,11 +9,11 @@ ghost use Rattle.backtrack.specs.Search.{Advanced, SearchAsk, Searched, SettleAs
 use copy::copy;
 use pick::{Pick, pick_branch};
 use propagate::propagate;
+use queue_state::{Slab, clear_value};
 use set_cell::set_cell;
-use slab::{Slab, clear_value};
 use written::write_grid;
 
-#[derive(Drop)]
+#[derive(Clone, Copy)]
 pub enum Next {
     Contradicted,
     Settled,

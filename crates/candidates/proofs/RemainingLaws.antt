@@ -34,7 +34,7 @@ use Rattle.soundness.proofs.Taken.{same_half_lem}
 use Rattle.soundness.proofs.MarkLaws.{marks_fits, rejected_gone, taken_alone}
 use Rattle.soundness.specs.Marks.{AcceptedMark}
 use Rattle.soundness.proofs.MarkLaws as marks
-use Rattle.slab.specs.Slab.{table_in}
+use Rattle.queue_state.specs.Slab.{table_in}
 use Rattle.invariants.specs.State.{Propagated}
 use Rattle.invariants.proofs.StateLaws.{table_kept}
 use Rattle.written.specs.Published.{PublishedTable}

@@ -10,11 +10,11 @@ ghost use Rattle.candidates.specs.Remaining.{TableGiven, Tabled};
 use engine::solve_refusal;
 use prepare::prepare;
 use propagate::propagate;
-use slab::Slab;
+use queue_state::Slab;
 use units::Unit;
 use written::write_candidates;
 
-#[derive(Drop)]
+#[derive(Clone, Copy)]
 pub enum Outcome {
     Refused(u8),
     Contradicted,

@@ -13,10 +13,10 @@ use Rattle.rules.specs.Mark.{left_black, right_black, upper_black, lower_black}
 use Rattle.table.specs.Table.{places, first_black, half}
 use Rattle.line_laws.proofs.Half.{digit_range, digit_in}
 use Rattle.bits.proofs.SumLaws.{sum_none, sum_one}
-use Rattle.slab.specs.Slab.{cand, table_in, tail}
-use Rattle.slab.proofs.SlabLaws.{cand_lt}
-use Rattle.slab.proofs.ReadyLaws.{ready_valid}
-use Rattle.slab.specs.Ready.{Ready}
+use Rattle.queue_state.specs.Slab.{cand, table_in, tail}
+use Rattle.queue_state.proofs.SlabLaws.{cand_lt}
+use Rattle.queue_state.proofs.ReadyLaws.{ready_valid}
+use Rattle.queue_state.specs.Ready.{Ready}
 use Rattle.set_cell.proofs.SettingLaws.{or_left, or_right}
 use Rattle.set_cell.proofs.SetLaws.{table_yes, yes_table, no_table}
 use Rattle.line_laws.proofs.CellValues.{value_range}

@@ -9,11 +9,11 @@ use lib.ListN.{get_or, set}
 use lib.Seq.{get_or-set_same, get_or-set_other}
 use Rattle.bits.specs.Sum.{sum_over, same}
 use Rattle.bits.proofs.SumLaws.{same_yes, same_no, sum_same, sum_add, sum_one, sum_le, sum_has}
-use Rattle.slab.specs.Layout.{counters_at}
-use Rattle.slab.specs.Slab.{cand, tail, entry, waits, lag, Sized, Grown, Struck, CounterAsk}
-use Rattle.slab.proofs.StruckLaws.{grown_refl, grown_trans, set_grown}
-use Rattle.slab.proofs.ReadyLaws.{lag_pop, lag_rest}
-use Rattle.slab.specs.Ready.{Valid, Ready, Next, Moved}
+use Rattle.queue_state.specs.Layout.{counters_at}
+use Rattle.queue_state.specs.Slab.{cand, tail, entry, waits, lag, Sized, Grown, Struck, CounterAsk}
+use Rattle.queue_state.proofs.StruckLaws.{grown_refl, grown_trans, set_grown}
+use Rattle.queue_state.proofs.ReadyLaws.{lag_pop, lag_rest}
+use Rattle.queue_state.specs.Ready.{Valid, Ready, Next, Moved}
 use Rattle.counters.specs.Counters.{Fam, Ruled, Fell}
 
 -- ---- a counter that falls

@@ -10,11 +10,11 @@ use lib.Dec.{ltb, leb}
 use borrow.Author.Tests.{lt-ltb, le-ltb, le-leb, ltb-true, leb-true}
 use Rattle.rules.specs.Grid.{Line, across, down}
 use Rattle.tally.proofs.TallyLaws.{or_split}
-use Rattle.slab.specs.Layout.{counters_at, row_half_at, places_at, row_blacks_at, lengths_at}
-use Rattle.slab.specs.Slab.{tail, Grown}
-use Rattle.slab.proofs.SlabLaws.{cand_lt}
-use Rattle.slab.proofs.StruckLaws.{grown_gone}
-use Rattle.slab.specs.Ready.{Moved}
+use Rattle.queue_state.specs.Layout.{counters_at, row_half_at, places_at, row_blacks_at, lengths_at}
+use Rattle.queue_state.specs.Slab.{tail, Grown}
+use Rattle.queue_state.proofs.SlabLaws.{cand_lt}
+use Rattle.queue_state.proofs.StruckLaws.{grown_gone}
+use Rattle.queue_state.specs.Ready.{Moved}
 use Rattle.set_cell.proofs.SettingLaws.{or_left, or_right}
 use Rattle.counters.specs.Counters.{Fam, IsSet, AllSet, NoBlacks, in_line, half_value, place_of, halves_base, places_base, halves, line_places, blacks_base, own_black, cross_black, cell_blacks, HalvesOf, PlacesOf, BlacksOf, Halves, LinePlaces, Blacks}
 use Rattle.counters.proofs.CounterLaws.{Fine, ruled_moved}

@@ -14,7 +14,7 @@ use Rattle.rules.specs.Grid.{digits, Line, across, down, index}
 use Rattle.table.specs.Table.{places, first_black, half, same_half}
 use Rattle.line_laws.proofs.Half.{HalfValue, a_digit, a_first, a_second, half_value, digit_in, first_in, second_in}
 use Rattle.table.specs.Lines.{row_of, column_of, cell_of}
-use Rattle.slab.specs.Slab.{cand, table_in}
+use Rattle.queue_state.specs.Slab.{cand, table_in}
 use Rattle.table.specs.Value.{ValueOf}
 use Rattle.set_cell.specs.Setting.{SetHit, along_row, along_column, in_cell}
 use Rattle.set_cell.proofs.SettingLaws.{or_left, or_right, hits_strikes}

@@ -4,8 +4,8 @@ use Rattle.bits.specs.Sum.{sum_over}
 use Rattle.rules.specs.Grid.{Line, across, down}
 use Rattle.rules.specs.Mark.{left_black, upper_black}
 use Rattle.table.specs.Table.{in_column, in_row}
-use Rattle.slab.specs.Layout.{counters_at, row_half_at, col_half_at, places_at, row_blacks_at, col_blacks_at}
-use Rattle.slab.specs.Slab.{cand, lag, Grown}
+use Rattle.queue_state.specs.Layout.{counters_at, row_half_at, col_half_at, places_at, row_blacks_at, col_blacks_at}
+use Rattle.queue_state.specs.Slab.{cand, lag, Grown}
 use Rattle.table.specs.Value.{ValueOf}
 use Rattle.set_cell.specs.Setting.{SetHit}
 

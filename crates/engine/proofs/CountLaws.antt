@@ -17,7 +17,7 @@ use Rattle.puzzle.proofs.PuzzleLaws.{puzzle_numbered, accepted}
 use Rattle.soundness.proofs.SameLaws.{same_left, same_ext}
 use Rattle.soundness.proofs.MarkLaws.{marks_number}
 use Rattle.soundness.proofs.MarkLaws as marks
-use Rattle.slab.specs.Slab.{table_in}
+use Rattle.queue_state.specs.Slab.{table_in}
 use Rattle.fresh.specs.Fresh.{Blank}
 use Rattle.line_laws.proofs.CellValues.{value_small}
 use Rattle.backtrack.specs.Search.{SearchAsk, Searched}

@@ -20,7 +20,7 @@ use Rattle.soundness.specs.SameGrids.{Within}
 use Rattle.soundness.proofs.MarkLaws.{within_solution}
 use Rattle.soundness.proofs.MarkLaws as marks
 use Rattle.table.specs.Steps.{marked_all}
-use Rattle.slab.specs.Slab.{table_in}
+use Rattle.queue_state.specs.Slab.{table_in}
 use Rattle.line_laws.proofs.CellValues.{value_small}
 use Rattle.backtrack.specs.Search.{SearchAsk, Searched}
 use Rattle.prepare.specs.Prepared.{Prepared, Marked}

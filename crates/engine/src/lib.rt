@@ -12,16 +12,16 @@ use backtrack::search;
 use mark_list::list_refusal;
 use prepare::prepare;
 use puzzle::puzzle_refusal;
-use slab::Slab;
+use queue_state::Slab;
 use units::Unit;
 
-#[derive(Drop)]
+#[derive(Clone, Copy)]
 pub enum Counted {
     Refused(u8),
     Count(u64),
 }
 
-#[derive(Drop)]
+#[derive(Clone, Copy)]
 pub enum Solved {
     Refused(u8),
     Unsolvable,

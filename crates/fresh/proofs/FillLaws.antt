@@ -10,7 +10,7 @@ use lib.Seq.{get_or-set_same, get_or-set_other}
 use borrow.Author.Tests.{lt-ltb, le-ltb}
 use Rattle.table.specs.Table.{every_value}
 use Rattle.value.specs.Mask.{mask_of}
-use Rattle.slab.specs.Layout.{row_half_at, row_blacks_at, lengths_at, slab_size}
+use Rattle.queue_state.specs.Layout.{row_half_at, row_blacks_at, lengths_at, slab_size}
 use Rattle.fresh.specs.Fresh.{Filled, Blank, cell_in, RowsFull, Fresh}
 
 pub fill_start : (l : List ℕ) (from k : ℕ) → Filled l l from from k

@@ -21,10 +21,10 @@ use Rattle.bits.specs.Bit.{bit}
 use Rattle.bits.specs.Sum.{sum_over}
 use Rattle.bits.proofs.SumLaws.{sum_same}
 use Rattle.bits.proofs.BitLaws.{bit_none}
-use Rattle.slab.specs.Layout.{queue_room, tail_at}
-use Rattle.slab.specs.Slab.{cand, tail, waits, lag, candidates_left}
-use Rattle.slab.proofs.SlabLaws.{cand_in, cand_out}
-use Rattle.slab.specs.Ready.{Valid, Ready}
+use Rattle.queue_state.specs.Layout.{queue_room, tail_at}
+use Rattle.queue_state.specs.Slab.{cand, tail, waits, lag, candidates_left}
+use Rattle.queue_state.proofs.SlabLaws.{cand_in, cand_out}
+use Rattle.queue_state.specs.Ready.{Valid, Ready}
 use Rattle.table.specs.Value.{ValueOf}
 use Rattle.fresh.specs.Fresh.{cell_in, Fresh}
 

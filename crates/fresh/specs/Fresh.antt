@@ -2,7 +2,7 @@
 use Rattle.std.specs.Prelude.{ℕ, ◌/◌, ◌%◌, ◌≤◌, ◌<◌, ◌≡◌, ◌⊎◌, ◌&&◌, cond, List, ltb, length, get_or}
 use Rattle.table.specs.Table.{every_value}
 use Rattle.value.specs.Mask.{mask_of}
-use Rattle.slab.specs.Layout.{queue_at, counters_at, row_half_at, row_blacks_at, lengths_at, slab_size}
+use Rattle.queue_state.specs.Layout.{queue_at, counters_at, row_half_at, row_blacks_at, lengths_at, slab_size}
 
 -- The places from .. to have the number k, and the others are as before.
 pub record Filled (l l' : List ℕ) (from to k : ℕ) : Type 0 where

@@ -5,7 +5,7 @@ ghost use Rattle.std.specs.Prelude.{◌≡◌, ◌+◌, ◌*◌, ◌≤◌, ◌<
 ghost use Rattle.rules.specs.Size.{Size};
 ghost use Rattle.fresh.specs.Fresh.{Filled, Blank, RowsFull, Fresh};
 
-use slab::Slab;
+use queue_state::Slab;
 use value::Value;
 
 // The places from .. to get the number x.

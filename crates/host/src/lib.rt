@@ -16,7 +16,7 @@ use engine::{Counted, Solved};
 use sheet_marking::Marked;
 use units::Unit;
 
-#[derive(Drop)]
+#[derive(Clone, Copy)]
 pub struct Answer {
     pub number: u8,
 }

@@ -24,11 +24,11 @@ use Rattle.soundness.specs.SameGrids.{Within}
 use Rattle.table.specs.Steps.{struck}
 use Rattle.set_cell.proofs.SetLaws.{yes_table, no_table}
 use Rattle.bits.proofs.SumLaws.{sum_same}
-use Rattle.slab.specs.Layout.{counters_at, lengths_at, length_place, live_place, support_place}
-use Rattle.slab.specs.Slab.{cand, table_in, tail, lag, Grown, Struck, One}
-use Rattle.slab.proofs.SlabLaws.{cand_lt}
-use Rattle.slab.proofs.ReadyLaws.{ready_grown}
-use Rattle.slab.specs.Ready.{Moved}
+use Rattle.queue_state.specs.Layout.{counters_at, lengths_at, length_place, live_place, support_place}
+use Rattle.queue_state.specs.Slab.{cand, table_in, tail, lag, Grown, Struck, One}
+use Rattle.queue_state.proofs.SlabLaws.{cand_lt}
+use Rattle.queue_state.proofs.ReadyLaws.{ready_grown}
+use Rattle.queue_state.specs.Ready.{Moved}
 use Rattle.words.specs.Word.{arrangement_of, word_of, part}
 use Rattle.counters.proofs.CounterLaws.{moved_struck}
 use Rattle.counters.proofs.Families.{halves_moved, places_moved, blacks_moved}

@@ -9,8 +9,8 @@ use Rattle.table.specs.Table.{every_value, fits}
 use Rattle.line_laws.specs.Grids.{GridOf}
 use Rattle.settled.specs.EmptyCell.{Empty}
 use Rattle.soundness.specs.SameGrids.{SameGrids}
-use Rattle.slab.specs.Slab.{cand, table_in, tail, lag}
-use Rattle.slab.specs.Ready.{Ready}
+use Rattle.queue_state.specs.Slab.{cand, table_in, tail, lag}
+use Rattle.queue_state.specs.Ready.{Ready}
 use Rattle.words.specs.Word.{Words, arrangement_of}
 use Rattle.counters.specs.Counters.{Halves, LinePlaces, Blacks}
 use Rattle.arcs.specs.Arc.{lives, live, Arc, Holding}

@@ -7,7 +7,7 @@ ghost use Rattle.lane.specs.Lanes.{row_lane, column_lane};
 use value::Value;
 
 // Its number (row, or 9 + column), its first cell, the way from cell to cell, and its first black; the second black is the next value.
-#[derive(Drop)]
+#[derive(Clone, Copy)]
 pub struct Lane {
     pub number: usize,
     pub start: usize,

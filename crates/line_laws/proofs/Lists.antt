@@ -11,7 +11,7 @@ use lib.Dec.{eqb}
 use lib.ListN.{length, get_or}
 use borrow.Author.Tests.{eqb-true, eq-eqb}
 use Rattle.tally.specs.Tally.{one_if, count, keep, join, span}
-use Rattle.tally.specs.Way.{Way, put}
+use Rattle.tally.specs.Way.{Way, done, put}
 use Rattle.tally.proofs.TallyLaws.{test_ext, span_in, span_once, Once}
 
 -- ---- tests
@@ -145,5 +145,6 @@ map_on (x ∷ xs) h = ap₂ ◌∷◌ (h x (Memᴰ.head refl)) (map_on xs (λ y 
 -- ---- ways
 
 pub way_mem : {s : List ℕ} {k : ℕ} {l : List ℕ} → Way s k l → (c : ℕ) → Memᴰ c l → Memᴰ c s
+way_mem done c m = elim m [ ]
 way_mem (put m w) c (Memᴰ.head e) = Memᴰ.cast e m
 way_mem (put m w) c (Memᴰ.tail k) = way_mem w c k

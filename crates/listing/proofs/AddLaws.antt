@@ -19,7 +19,7 @@ use Rattle.words.proofs.PatternLaws.{part_lt}
 use Rattle.words.proofs.WordLaws.{known_shaped}
 use Rattle.arcs.specs.Arc.{lives, live, support}
 use Rattle.table.specs.Lines.{black_at}
-use Rattle.slab.specs.Layout.{length_place, per_line, live_place, support_place}
+use Rattle.queue_state.specs.Layout.{length_place, per_line, live_place, support_place}
 use Rattle.listing.specs.Numbers.{scan, starts_from, of_size, side_from, side_of}
 use Rattle.listing.specs.Listing.{list_of, Raised, WordAsk, Added, AddAsk, Adding, StartsAsk}
 

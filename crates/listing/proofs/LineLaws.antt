@@ -19,7 +19,7 @@ use Rattle.words.specs.Word.{arrangement_of, word_of, part}
 use Rattle.fresh.specs.Fresh.{Fresh}
 use Rattle.arcs.specs.Arc.{lives, live, support}
 use Rattle.table.specs.Lines.{black_at, LineOf}
-use Rattle.slab.specs.Layout.{lengths_at, length_place, per_line, live_place, support_place}
+use Rattle.queue_state.specs.Layout.{lengths_at, length_place, per_line, live_place, support_place}
 use Rattle.listing.specs.Numbers.{side_of, numbers_for}
 use Rattle.listing.proofs.NumberFacts.{numbers_few, numbers_are, numbers_known}
 use Rattle.listing.specs.Listing.{list_of, Elsewhere, Added, AddAsk, Unlisted, Lists, LinesAsk, LinesTo, target_at, OpenAsk, LinesListed}

@@ -17,7 +17,7 @@ use Rattle.bits.specs.Bit.{bit}
 use Rattle.rules.proofs.SizeLaws.{at_size}
 use Rattle.rules.specs.Size.{Size}
 use Rattle.words.specs.Word.{subset_table, subset, sum_table, from_sum, mask_in, digits_of, arrangement_of, Known, on_side}
-use Rattle.slab.specs.Layout.{per_line}
+use Rattle.queue_state.specs.Layout.{per_line}
 use Rattle.listing.specs.Numbers.{scan, starts_from, of_size, side_from, side_of, numbers_for}
 
 -- ---- equal arrangements, by a test

@@ -17,7 +17,7 @@ use Rattle.bits.proofs.SumLaws.{same_yes, same_no}
 use Rattle.words.specs.Word.{set_of, inner_of, first_of, second_of, part}
 use Rattle.words.proofs.PatternLaws.{part_digit, part_first, part_second, part_other, first_in, second_in}
 use Rattle.arcs.specs.Arc.{support}
-use Rattle.slab.specs.Layout.{support_place}
+use Rattle.queue_state.specs.Layout.{support_place}
 use Rattle.listing.specs.Listing.{Raised, one_at, digits_at, inner_to, RaiseAsk, WordAsk}
 
 same_lt : (a b : ℕ) → same a b < 2

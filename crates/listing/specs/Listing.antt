@@ -11,7 +11,7 @@ use Rattle.words.specs.Word.{Known, arrangement_of, word_of, mask_in, set_of, in
 use Rattle.arcs.specs.Arc.{lives, live, support}
 use Rattle.table.specs.Lines.{black_at, LineOf}
 use Rattle.fresh.specs.Fresh.{Fresh}
-use Rattle.slab.specs.Layout.{lengths_at, length_place, per_line, live_place, support_place, slab_size}
+use Rattle.queue_state.specs.Layout.{lengths_at, length_place, per_line, live_place, support_place, slab_size}
 
 -- The numbers of the arrangements that line ℓ lists.
 abbrev pub list_of : List ℕ → ℕ → List ℕ

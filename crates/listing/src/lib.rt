@@ -8,7 +8,7 @@ ghost use Rattle.listing.specs.Numbers.{starts_from, side_from, side_of, numbers
 ghost use Rattle.listing.specs.Listing.{Raised, one_at, digits_at, inner_to, RaiseAsk, WordAsk, Added, AddAsk, StartsAsk, LinesAsk, LinesTo, OpenAsk, LinesListed};
 
 use puzzle::max_target;
-use slab::Slab;
+use queue_state::Slab;
 use value::{Value, wide};
 use words::{Subset, first_of, from_sum, second_of, set_of};
 

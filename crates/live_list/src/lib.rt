@@ -5,7 +5,7 @@ ghost use Rattle.std.specs.Prelude.{◌≡◌, ◌+◌, ◌<◌, ◌≤◌, leng
 ghost use Rattle.live_list.specs.Swap.{swapped, exchanged};
 
 // A place of a line's live list: the arrangement that stands there.
-#[derive(Drop)]
+#[derive(Clone, Copy)]
 pub struct Place {
     pub arrangement: u16,
 }

@@ -11,7 +11,7 @@ ghost use Rattle.mark_list.specs.Unpacked.{unpacked, word_at};
 use units::Unit;
 use value::{Value, wide};
 
-#[derive(Drop)]
+#[derive(Clone, Copy)]
 pub struct Mark {
     pub rejects: bool,
     pub row: usize,

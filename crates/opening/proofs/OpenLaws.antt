@@ -13,11 +13,11 @@ use Rattle.bits.proofs.BitLaws.{bit_lt, bit_le, bit_zero}
 use Rattle.bits.specs.Sum.{same}
 use Rattle.bits.proofs.SumLaws.{sum_same}
 use Rattle.rules.specs.Size.{Size}
-use Rattle.slab.specs.Layout.{entry_place, tail_at, counters_at, lengths_at, support_place, slab_size}
-use Rattle.slab.specs.Slab.{cand, tail, entry, waits, lag, candidates_left, Sized, Grown, Struck}
-use Rattle.slab.proofs.SlabLaws.{cand_same}
-use Rattle.slab.proofs.StruckLaws.{grown_sized, grown_trans}
-use Rattle.slab.specs.Ready.{Valid}
+use Rattle.queue_state.specs.Layout.{entry_place, tail_at, counters_at, lengths_at, support_place, slab_size}
+use Rattle.queue_state.specs.Slab.{cand, tail, entry, waits, lag, candidates_left, Sized, Grown, Struck}
+use Rattle.queue_state.proofs.SlabLaws.{cand_same}
+use Rattle.queue_state.proofs.StruckLaws.{grown_sized, grown_trans}
+use Rattle.queue_state.specs.Ready.{Valid}
 use Rattle.table.specs.Value.{ValueOf, HalfOf}
 use Rattle.fresh.proofs.FreshLaws.{fresh_lag, fresh_full, fresh_ready}
 use Rattle.words.specs.Word.{mask_in, Known, set_of, inner_of, word_of, part}

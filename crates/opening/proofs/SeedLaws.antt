@@ -15,9 +15,9 @@ use Rattle.tally.proofs.TallyLaws.{span_mem, and_left, and_right}
 use Rattle.tally.proofs.WayLaws.{all_each}
 use Rattle.bits.specs.Bit.{bit}
 use Rattle.bits.proofs.BitLaws.{bit_lt, bit_and_lem, bit_or_lem, bit_none, bit_pow_same, bit_pow_other, shl_one}
-use Rattle.slab.specs.Layout.{counters_at, support_place}
-use Rattle.slab.specs.Slab.{Struck, Masked}
-use Rattle.slab.proofs.StruckLaws.{struck_none, struck_both, struck_as}
+use Rattle.queue_state.specs.Layout.{counters_at, support_place}
+use Rattle.queue_state.specs.Slab.{Struck, Masked}
+use Rattle.queue_state.proofs.StruckLaws.{struck_none, struck_both, struck_as}
 use Rattle.arcs.specs.Arc.{support}
 use Rattle.table.specs.Value.{HalfOf}
 use Rattle.opening.specs.Opening.{Lacks, Bare, along_row, along_column, BareCell, BareIn, BareTo}

@@ -3,9 +3,9 @@ use Rattle.std.specs.Prelude.{ℕ, ◌+◌, ◌-◌, ◌*◌, ◌/◌, ◌%◌, 
 use Rattle.tally.specs.Tally.{span}
 use Rattle.table.specs.Closed.{arrangements}
 use Rattle.bits.specs.Bit.{bit}
-use Rattle.slab.specs.Layout.{lengths_at, slab_size}
-use Rattle.slab.specs.Slab.{cand}
-use Rattle.slab.specs.Ready.{Moved}
+use Rattle.queue_state.specs.Layout.{lengths_at, slab_size}
+use Rattle.queue_state.specs.Slab.{cand}
+use Rattle.queue_state.specs.Ready.{Moved}
 use Rattle.words.specs.Word.{arrangement_of}
 use Rattle.arcs.specs.Arc.{lives, live, support, Arc, Unsupported}
 use Rattle.table.specs.Value.{HalfOf}

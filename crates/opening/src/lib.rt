@@ -2,13 +2,13 @@
 #![tactic(auto)]
 
 ghost use Rattle.std.specs.Prelude.{◌≡◌, ◌+◌, ◌*◌, ◌≤◌, ◌<◌, length};
-ghost use Rattle.slab.specs.Layout.{slab_size};
-ghost use Rattle.slab.specs.Slab.{Sized, Struck};
+ghost use Rattle.queue_state.specs.Layout.{slab_size};
+ghost use Rattle.queue_state.specs.Slab.{Sized, Struck};
 ghost use Rattle.listing.specs.Listing.{OpenAsk};
 ghost use Rattle.opening.specs.Opening.{Lacks, BareCell, BareIn, BareTo, Opened};
 
 use listing::list_arrangements;
-use slab::{Slab, clear_mask};
+use queue_state::{Slab, clear_mask};
 use value::Value;
 
 // The values that no live arrangement of a line has at place p, as a mask.

@@ -19,10 +19,10 @@ use Rattle.bits.specs.Bit.{bit}
 use Rattle.bits.proofs.BitLaws.{bit_lt, bit_and_lem, ones_sum}
 use Rattle.bits.specs.Sum.{sum_over}
 use Rattle.bits.proofs.SumLaws.{sum_same, sum_none, sum_first}
-use Rattle.slab.specs.Slab.{cand, table_in}
-use Rattle.slab.proofs.SlabLaws.{cand_in, cand_lt}
-use Rattle.slab.proofs.ReadyLaws.{ready_unused}
-use Rattle.slab.specs.Ready.{Ready}
+use Rattle.queue_state.specs.Slab.{cand, table_in}
+use Rattle.queue_state.proofs.SlabLaws.{cand_in, cand_lt}
+use Rattle.queue_state.proofs.ReadyLaws.{ready_unused}
+use Rattle.queue_state.specs.Ready.{Ready}
 use Rattle.pick.specs.Choice.{row_choices}
 
 pub choices_most : (l : List ℕ) (x : ℕ) → row_choices l x ≤ 9

@@ -5,7 +5,7 @@ use mathlib.Core.List.{List}
 use native.Mathlib.Omega.{arith}
 use native.Mathlib.Decide.{ℕ_discrete}
 use Rattle.rules.specs.Size.{Size}
-use Rattle.slab.specs.Ready.{Ready}
+use Rattle.queue_state.specs.Ready.{Ready}
 use Rattle.pick.specs.Choice.{row_choices}
 use Rattle.pick.proofs.ChoiceLaws.{choices_most}
 use Rattle.pick.specs.declared.Best.{Best}

@@ -10,7 +10,7 @@ use lib.Count.{ones, count_trailing_zeros}
 use lib.Pow.{pow_pos}
 use Rattle.bits.specs.Bit.{bit}
 use Rattle.bits.proofs.BitLaws.{bit_lt, bit_and_lem, bit_le, bit_taken, bit_kept, shl_one, Lowest, trailing_lowest, ones_0}
-use Rattle.slab.proofs.SlabLaws.{cand_in}
+use Rattle.queue_state.proofs.SlabLaws.{cand_in}
 use Rattle.pick.specs.Choice.{row_choices, Candidate}
 use Rattle.pick.proofs.ChoiceLaws.{mask_zero, mask_out, freedom_choices}
 use Rattle.pick.specs.Scanning.{PlaceAsk}

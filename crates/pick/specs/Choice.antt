@@ -1,7 +1,7 @@
 -- What a branching rule has to keep: a cell with a choice and one of its candidates, or no cell with a choice. Assumes nothing.
 use Rattle.std.specs.Prelude.{ℕ, ◌/◌, ◌%◌, ◌≤◌, ◌<◌, ◌≡◌, List}
 use Rattle.bits.specs.Sum.{sum_over}
-use Rattle.slab.specs.Slab.{cand}
+use Rattle.queue_state.specs.Slab.{cand}
 use Rattle.pick.specs.declared.Pick.{Pick}
 use Rattle.pick.specs.declared.Pick.TheVariants.{At, Nothing}
 

@@ -1,7 +1,7 @@
 -- The best cell among those that were looked at. Assumes nothing.
 use Rattle.std.specs.Prelude.{ℕ, ◌*◌, ◌%◌, ◌≤◌, ◌<◌, ◌≡◌, List, length}
-use Rattle.slab.specs.Layout.{slab_size}
-use Rattle.slab.specs.Ready.{Ready}
+use Rattle.queue_state.specs.Layout.{slab_size}
+use Rattle.queue_state.specs.Ready.{Ready}
 use Rattle.pick.specs.Choice.{row_choices, Open}
 use Rattle.pick.specs.declared.Best.{Best}
 

@@ -3,22 +3,22 @@
 #![tactic(auto)]
 
 ghost use Rattle.std.specs.Prelude.{◌≡◌, ◌+◌, ◌*◌, ◌<◌};
-ghost use Rattle.slab.specs.Ready.{Ready};
+ghost use Rattle.queue_state.specs.Ready.{Ready};
 ghost use Rattle.pick.specs.Choice.{row_choices, Candidate, Picked};
 ghost use Rattle.pick.specs.Scanning.{PlaceAsk, Looked, Sought, BestRowAsk};
 
-use slab::Slab;
+use queue_state::Slab;
 use value::Value;
 
 // A cell to branch on and the value to take there, or nothing where no cell has a choice.
-#[derive(Drop)]
+#[derive(Clone, Copy)]
 pub enum Pick {
     At(usize, usize),
     Nothing,
 }
 
 // The best cell so far and how many row-half candidates it has; 99 where there is none.
-#[derive(Drop)]
+#[derive(Clone, Copy)]
 pub struct Best {
     pub cell: usize,
     pub free: u32,

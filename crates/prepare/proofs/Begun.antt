@@ -12,10 +12,10 @@ use Rattle.rules.specs.Size.{Size}
 use Rattle.rules.specs.Grid.{Line, across, down, index, target, puzzle}
 use Rattle.table.specs.Closed.{Arrangement, arrangements}
 use Rattle.soundness.specs.Marks.{Whole}
-use Rattle.slab.specs.Slab.{cand, table_in}
-use Rattle.slab.proofs.SlabLaws.{cand_lt}
-use Rattle.slab.proofs.ReadyLaws.{ready_grown}
-use Rattle.slab.specs.Ready.{Valid}
+use Rattle.queue_state.specs.Slab.{cand, table_in}
+use Rattle.queue_state.proofs.SlabLaws.{cand_lt}
+use Rattle.queue_state.proofs.ReadyLaws.{ready_grown}
+use Rattle.queue_state.specs.Ready.{Valid}
 use Rattle.table.specs.Value.{ValueOf}
 use Rattle.words.specs.Word.{arrangement_of}
 use Rattle.counters.proofs.Families.{halves_moved, places_moved, blacks_moved}

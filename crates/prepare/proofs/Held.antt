@@ -24,9 +24,9 @@ use Rattle.table.specs.Lines.{row_of, column_of, line_at, cell_at, black_at, Lin
 use Rattle.soundness.proofs.GridValues.{value_at, value_in, value_has, has_is, has_fits}
 use Rattle.line_laws.proofs.CellValues.{half_every, value_of, value_small, value_half}
 use Rattle.table.specs.Value.{IsValue, HalfOf}
-use Rattle.slab.specs.Slab.{cand, table_in}
-use Rattle.slab.proofs.SlabLaws.{cand_lt}
-use Rattle.slab.specs.Ready.{Valid}
+use Rattle.queue_state.specs.Slab.{cand, table_in}
+use Rattle.queue_state.proofs.SlabLaws.{cand_lt}
+use Rattle.queue_state.specs.Ready.{Valid}
 use Rattle.words.specs.Word.{Known, arrangement_of, word_of, pattern, part}
 use Rattle.words.proofs.PatternLaws.{part_yes}
 use Rattle.words.proofs.Arranged.{known_length, pattern_allows}

@@ -16,7 +16,7 @@ use Rattle.settled.proofs.EmptyLaws.{empty_left}
 use Rattle.soundness.proofs.MarkLaws.{whole_same, marks_number, marks_kept}
 use Rattle.soundness.specs.Marks.{Whole, AcceptedMark}
 use Rattle.soundness.proofs.MarkLaws as marks
-use Rattle.slab.specs.Slab.{table_in}
+use Rattle.queue_state.specs.Slab.{table_in}
 use Rattle.fresh.specs.Fresh.{Fresh}
 use Rattle.words.specs.Word.{Words}
 use Rattle.listing.specs.Listing.{OpenAsk}

@@ -15,10 +15,10 @@ use Rattle.rules.proofs.SizeLaws.{at_size}
 use Rattle.rules.specs.Size.{Size}
 use Rattle.bits.specs.Sum.{sum_over}
 use Rattle.bits.proofs.SumLaws.{sum_same}
-use Rattle.slab.specs.Layout.{row_half_at, row_blacks_at, lengths_at}
-use Rattle.slab.specs.Slab.{cand, lag}
-use Rattle.slab.proofs.SlabLaws.{cand_lt}
-use Rattle.slab.proofs.ReadyLaws.{ready_valid}
+use Rattle.queue_state.specs.Layout.{row_half_at, row_blacks_at, lengths_at}
+use Rattle.queue_state.specs.Slab.{cand, lag}
+use Rattle.queue_state.proofs.SlabLaws.{cand_lt}
+use Rattle.queue_state.proofs.ReadyLaws.{ready_valid}
 use Rattle.table.specs.Value.{ValueOf}
 use Rattle.fresh.specs.Fresh.{cell_in, Fresh}
 use Rattle.fresh.proofs.FreshLaws.{full_cand, full_bit, full_bit_lem, fresh_cand, fresh_lag, fresh_full, fresh_ready}

@@ -7,7 +7,7 @@ use Rattle.rules.specs.Number.{number}
 use Rattle.puzzle.specs.Accepted.{AcceptedPuzzle}
 use Rattle.table.specs.Steps.{marked_all}
 use Rattle.soundness.specs.Marks.{Whole}
-use Rattle.slab.specs.Slab.{table_in}
+use Rattle.queue_state.specs.Slab.{table_in}
 use Rattle.fresh.specs.Fresh.{Blank}
 use Rattle.invariants.specs.State.{Kept, PropagateAsk}
 

@@ -23,9 +23,9 @@ use Rattle.soundness.specs.SameGrids.{SameGrids, Forced}
 use Rattle.soundness.proofs.Deductions.{naked_forced, hidden_forced}
 use Rattle.soundness.proofs.Deductions as deductions
 use Rattle.soundness.proofs.Taken.{taken_same}
-use Rattle.slab.specs.Layout.{lengths_at}
-use Rattle.slab.specs.Slab.{cand, table_in}
-use Rattle.slab.specs.Ready.{Moved}
+use Rattle.queue_state.specs.Layout.{lengths_at}
+use Rattle.queue_state.specs.Slab.{cand, table_in}
+use Rattle.queue_state.specs.Ready.{Moved}
 use Rattle.words.specs.Word.{arrangement_of}
 use Rattle.arcs.specs.Arc.{Older, Pruned}
 use Rattle.invariants.specs.State.{candidates_of, Kept}

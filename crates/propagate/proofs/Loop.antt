@@ -12,11 +12,11 @@ use borrow.Author.Tests.{ne_eqb}
 use Rattle.bits.specs.Bit.{bit}
 use Rattle.bits.proofs.BitLaws.{bit_zero, bit_suc, bit_none}
 use Rattle.bits.proofs.SumLaws.{same_no}
-use Rattle.slab.specs.Layout.{queue_room, slab_size}
-use Rattle.slab.specs.Slab.{cand, table_in, tail, entry, lag}
-use Rattle.slab.proofs.SlabLaws.{cand_in}
-use Rattle.slab.proofs.ReadyLaws.{ready_grown, lag_pop}
-use Rattle.slab.specs.Ready.{Valid, Next}
+use Rattle.queue_state.specs.Layout.{queue_room, slab_size}
+use Rattle.queue_state.specs.Slab.{cand, table_in, tail, entry, lag}
+use Rattle.queue_state.proofs.SlabLaws.{cand_in}
+use Rattle.queue_state.proofs.ReadyLaws.{ready_grown, lag_pop}
+use Rattle.queue_state.specs.Ready.{Valid, Next}
 use Rattle.words.specs.Word.{Words}
 use Rattle.counters.proofs.CounterLaws.{next_valid}
 use Rattle.invariants.specs.State.{Occupied, Lagging, PropagateAsk, Propagated}

@@ -16,10 +16,10 @@ use Rattle.rules.proofs.GridLaws.{in_line}
 use Rattle.table.specs.Table.{places, first_black, half}
 use Rattle.settled.specs.EmptyCell.{Empty}
 use Rattle.soundness.proofs.SameLaws.{same_trans, same_ext}
-use Rattle.slab.specs.Layout.{tail_at, counters_at, slab_size}
-use Rattle.slab.specs.Slab.{cand, table_in, tail, lag, candidates_left}
-use Rattle.slab.proofs.SlabLaws.{cand_lt, cand_same}
-use Rattle.slab.proofs.ReadyLaws.{lag_rest}
+use Rattle.queue_state.specs.Layout.{tail_at, counters_at, slab_size}
+use Rattle.queue_state.specs.Slab.{cand, table_in, tail, lag, candidates_left}
+use Rattle.queue_state.proofs.SlabLaws.{cand_lt, cand_same}
+use Rattle.queue_state.proofs.ReadyLaws.{lag_rest}
 use Rattle.counters.specs.Counters.{Fam, Ruled, AllSet, NoBlacks, Halves, LinePlaces, Blacks, halves, line_places, cell_blacks}
 use Rattle.counters.proofs.Closure.{AtRest, lone, single, crossed, crossed_back, blacks}
 use Rattle.arcs.specs.Arc.{lives, live}

@@ -13,8 +13,8 @@ use Rattle.rules.specs.Grid.{Line, across, down}
 use Rattle.table.specs.Closed.{arrangements, place, allows, Live, Supported}
 use Rattle.table.proofs.ClosedTest.{Covers, covers}
 use Rattle.table.specs.Table.{places, first_black, half}
-use Rattle.slab.specs.Slab.{cand, lag, table_in}
-use Rattle.slab.proofs.SlabLaws.{cand_lt}
+use Rattle.queue_state.specs.Slab.{cand, lag, table_in}
+use Rattle.queue_state.proofs.SlabLaws.{cand_lt}
 use Rattle.words.specs.Word.{size_in, Known, arrangement_of, word_of, from_of, to_of, steps, pattern, part}
 use Rattle.words.proofs.PatternLaws.{part_lt, part_yes, part_pattern, pattern_beyond}
 use Rattle.words.proofs.WordLaws.{known_fits, known_steps, known_shaped}

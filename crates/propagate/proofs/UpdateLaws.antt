@@ -6,11 +6,11 @@ use mathlib.Core.List.{List}
 use native.Mathlib.Omega.{arith}
 use Rattle.bits.specs.Sum.{same}
 use Rattle.bits.proofs.SumLaws.{same_yes, sum_has}
-use Rattle.slab.specs.Layout.{lengths_at, slab_size}
-use Rattle.slab.specs.Slab.{cand, tail, entry, waits, lag, Grown}
-use Rattle.slab.proofs.StruckLaws.{grown_trans}
-use Rattle.slab.proofs.ReadyLaws.{ready_grown, next_grown}
-use Rattle.slab.specs.Ready.{Next, Moved}
+use Rattle.queue_state.specs.Layout.{lengths_at, slab_size}
+use Rattle.queue_state.specs.Slab.{cand, tail, entry, waits, lag, Grown}
+use Rattle.queue_state.proofs.StruckLaws.{grown_trans}
+use Rattle.queue_state.proofs.ReadyLaws.{ready_grown, next_grown}
+use Rattle.queue_state.specs.Ready.{Next, Moved}
 use Rattle.line_laws.proofs.CellValues.{value_range}
 use Rattle.counters.proofs.Families.{halves_moved, places_moved, blacks_moved}
 use Rattle.singles.proofs.HandlingLaws.{handling_grown}

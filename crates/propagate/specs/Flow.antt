@@ -3,7 +3,7 @@ use Rattle.std.specs.Prelude.{ℕ, ◌≡◌, List}
 use Rattle.rules.specs.Grid.{Puzzle}
 use Rattle.soundness.specs.SameGrids.{SameGrids}
 use Rattle.soundness.proofs.Deductions as deductions
-use Rattle.slab.specs.Slab.{table_in}
+use Rattle.queue_state.specs.Slab.{table_in}
 use Rattle.invariants.specs.State.{Kept}
 
 -- A step that loses no grid, for each puzzle whose arrangements the state has.

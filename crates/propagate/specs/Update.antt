@@ -1,7 +1,7 @@
 -- Handling one strike. Assumes nothing.
 use Rattle.std.specs.Prelude.{ℕ, ◌+◌, ◌*◌, ◌≤◌, ◌<◌, List}
-use Rattle.slab.specs.Slab.{lag, Grown}
-use Rattle.slab.specs.Ready.{Next}
+use Rattle.queue_state.specs.Slab.{lag, Grown}
+use Rattle.queue_state.specs.Ready.{Next}
 use Rattle.words.specs.Word.{Words}
 use Rattle.singles.specs.Handling.{Handling}
 use Rattle.invariants.specs.State.{Counted}

@@ -5,8 +5,8 @@ ghost use Rattle.invariants.specs.State.{PropagateAsk, Propagated};
 ghost use Rattle.propagate.specs.Update.{UpdateAsk, UpdateDone};
 
 use arcs::update_arc;
+use queue_state::Slab;
 use singles::{update_black_consistency, update_hidden_singles, update_singleton};
-use slab::Slab;
 
 // All handlers of a strike.
 fn update(st: &mut [u16], words: &[u32], n: usize, r: usize, c: usize, v: usize)

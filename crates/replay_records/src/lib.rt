@@ -14,14 +14,14 @@ use solver_calls::{candidates_agree, count_agrees, solve_agrees};
 
 // What replaying the first record of a list found: its tag, how many bytes it takes, and whether the engine answers as recorded. Where no
 // record can be read, the kind is 0 and the length that of the whole list.
-#[derive(Drop)]
+#[derive(Clone, Copy)]
 pub struct Outcome {
     pub kind: usize,
     pub length: usize,
     pub agrees: bool,
 }
 
-#[derive(Drop)]
+#[derive(Clone, Copy)]
 pub struct Tally {
     pub replayed: usize,
     pub differ: usize,

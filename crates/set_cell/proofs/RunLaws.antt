@@ -7,8 +7,8 @@ use native.Mathlib.Omega.{arith}
 use native.Mathlib.Decide.{ℕ_discrete}
 use Rattle.lane.specs.declared.Lane.{Lane}
 use Rattle.lane.specs.Lanes.{row_lane, column_lane}
-use Rattle.slab.specs.Slab.{Struck, One}
-use Rattle.slab.proofs.StruckLaws.{grown_sized, struck_none, struck_both, struck_as}
+use Rattle.queue_state.specs.Slab.{Struck, One}
+use Rattle.queue_state.proofs.StruckLaws.{grown_sized, struck_none, struck_both, struck_as}
 use Rattle.set_cell.specs.Run.{Run, Sides, Inside, RunAsk, SidesAsk, Running}
 
 pub running_start : (l : List ℕ) (lane : Lane) (a b v : ℕ) → a ≤ b → Running l l lane a a b v

@@ -12,11 +12,11 @@ use Rattle.table.specs.Steps.{strikes, taken}
 use Rattle.table.specs.Table.{in_column, in_row}
 use Rattle.lane.specs.declared.Lane.{Lane}
 use Rattle.lane.specs.Lanes.{row_lane, column_lane}
-use Rattle.slab.specs.Slab.{cand, table_in, Grown, Struck, Masked}
-use Rattle.slab.proofs.SlabLaws.{cand_lt}
-use Rattle.slab.proofs.StruckLaws.{struck_none, struck_both, struck_as}
-use Rattle.slab.proofs.ReadyLaws.{ready_grown, ready_valid}
-use Rattle.slab.specs.Ready.{Valid}
+use Rattle.queue_state.specs.Slab.{cand, table_in, Grown, Struck, Masked}
+use Rattle.queue_state.proofs.SlabLaws.{cand_lt}
+use Rattle.queue_state.proofs.StruckLaws.{struck_none, struck_both, struck_as}
+use Rattle.queue_state.proofs.ReadyLaws.{ready_grown, ready_valid}
+use Rattle.queue_state.specs.Ready.{Valid}
 use Rattle.set_cell.proofs.RunLaws.{row_run, run_row, column_run, run_column, row_inside, column_inside}
 use Rattle.set_cell.specs.Run.{Sides, SidesAsk}
 use Rattle.set_cell.specs.Setting.{SetHit, SetAsk, RowOthers, ColumnOthers, BlacksAround, RestOfHalf, Hits, along_row, along_column, in_cell, to_left, to_right, above, below}

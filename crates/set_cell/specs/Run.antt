@@ -1,7 +1,7 @@
 -- Striking a value along a line. Assumes nothing.
 use Rattle.std.specs.Prelude.{ℕ, ◌+◌, ◌*◌, ◌≤◌, ◌<◌, ◌≡◌, ◌⊎◌, List}
 use Rattle.lane.specs.declared.Lane.{Lane}
-use Rattle.slab.specs.Slab.{Sized, Struck}
+use Rattle.queue_state.specs.Slab.{Sized, Struck}
 
 -- The value v at the places from a to b - 1 of a line.
 pub record Run (lane : Lane) (a b v x w : ℕ) : Type 0 where

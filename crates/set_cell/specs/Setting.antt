@@ -4,7 +4,7 @@ use Rattle.bits.specs.Bit.{bit}
 use Rattle.table.specs.Steps.{strikes}
 use Rattle.table.specs.Table.{in_column, in_row, same_half}
 use Rattle.lane.specs.Lanes.{row_lane, column_lane}
-use Rattle.slab.specs.Ready.{Ready}
+use Rattle.queue_state.specs.Ready.{Ready}
 use Rattle.table.specs.Value.{ValueOf}
 use Rattle.set_cell.specs.Run.{Sides}
 

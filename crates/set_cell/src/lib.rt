@@ -3,12 +3,12 @@
 
 ghost use Rattle.std.specs.Prelude.{◌≡◌, ◌≤◌, ◌<◌};
 ghost use Rattle.table.specs.Table.{in_column, in_row};
-ghost use Rattle.slab.specs.Slab.{Struck};
+ghost use Rattle.queue_state.specs.Slab.{Struck};
 ghost use Rattle.set_cell.specs.Run.{Run, Sides, RunAsk, SidesAsk};
 ghost use Rattle.set_cell.specs.Setting.{SetHit, SetAsk, RowOthers, ColumnOthers, BlacksAround, RestOfHalf};
 
 use lane::Lane;
-use slab::{clear_mask, clear_value};
+use queue_state::{clear_mask, clear_value};
 use value::Value;
 
 // A value of the row half: a digit or a row black.

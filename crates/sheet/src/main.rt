@@ -9,7 +9,7 @@ use libc::{EINTR, STDIN_FILENO, STDOUT_FILENO};
 use text_stream::Stream;
 
 // What comes next: more input, the end of the input, or nothing, because a read or a write failed.
-#[derive(Drop)]
+#[derive(Clone, Copy)]
 enum Next {
     Read,
     End,
@@ -17,7 +17,7 @@ enum Next {
 }
 
 // The stream behind what was read, and what comes next.
-#[derive(Drop)]
+#[derive(Clone, Copy)]
 struct Turn {
     stream: Stream,
     next: Next,
@@ -35,7 +35,7 @@ fn is_interrupted(answer: isize, what: &[u8]) -> bool {
 }
 
 // How many bytes a write took, and whether more can be written.
-#[derive(Drop)]
+#[derive(Clone, Copy)]
 struct Wrote {
     count: usize,
     goes_on: bool,

@@ -17,7 +17,7 @@ use puzzle::{puzzle_refusal, wide};
 use target_sums::line_sum;
 use units::Unit;
 
-#[derive(Drop)]
+#[derive(Clone, Copy)]
 pub enum Marked {
     Refused(u8),
     Right,
@@ -25,7 +25,7 @@ pub enum Marked {
 }
 
 // The fault of a line: the first step of its check that fails, in the sequence of the printed rules, or none.
-#[derive(Drop)]
+#[derive(Clone, Copy)]
 pub enum LineFault {
     Digits,
     Blacks,

@@ -16,11 +16,11 @@ use Rattle.table.specs.Lines.{row_of, column_of, cell_of}
 use Rattle.bits.specs.Bit.{bit}
 use Rattle.bits.specs.Sum.{sum_over}
 use Rattle.bits.proofs.SumLaws.{sum_has}
-use Rattle.slab.specs.Layout.{counters_at}
-use Rattle.slab.specs.Slab.{cand, table_in, Sized, Struck, Masked, CounterAsk}
-use Rattle.slab.proofs.SlabLaws.{cand_lt}
-use Rattle.slab.proofs.StruckLaws.{grown_sized, grown_gone}
-use Rattle.slab.specs.Ready.{Ready}
+use Rattle.queue_state.specs.Layout.{counters_at}
+use Rattle.queue_state.specs.Slab.{cand, table_in, Sized, Struck, Masked, CounterAsk}
+use Rattle.queue_state.proofs.SlabLaws.{cand_lt}
+use Rattle.queue_state.proofs.StruckLaws.{grown_sized, grown_gone}
+use Rattle.queue_state.specs.Ready.{Ready}
 use Rattle.set_cell.proofs.MaskBits.{MaskIs, bit_test, mask_is}
 use Rattle.set_cell.proofs.SettingLaws.{and_two, or_left, or_right}
 use Rattle.set_cell.proofs.SetLaws.{yes_table, table_yes, table_no}

@@ -6,8 +6,8 @@ use mathlib.Core.Logic.{inl, inr}
 use mathlib.Core.List.{List}
 use native.Mathlib.Omega.{arith}
 use Rattle.rules.specs.Grid.{across, down, index}
-use Rattle.slab.specs.Layout.{row_blacks_place, col_blacks_place}
-use Rattle.slab.specs.Ready.{Next}
+use Rattle.queue_state.specs.Layout.{row_blacks_place, col_blacks_place}
+use Rattle.queue_state.specs.Ready.{Next}
 use Rattle.counters.specs.Counters.{BlacksOf}
 use Rattle.counters.proofs.CounterLaws.{moved_wide, moved_both}
 use Rattle.counters.proofs.Families.{black_moved}

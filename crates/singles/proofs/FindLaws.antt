@@ -7,8 +7,8 @@ use native.Mathlib.Decide.{ℕ_discrete}
 use lib.ListN.{get_or}
 use Rattle.bits.specs.Bit.{bit}
 use Rattle.bits.proofs.BitLaws.{bit_lt}
-use Rattle.slab.specs.Slab.{cand}
-use Rattle.slab.proofs.SlabLaws.{cand_in}
+use Rattle.queue_state.specs.Slab.{cand}
+use Rattle.queue_state.proofs.SlabLaws.{cand_in}
 use Rattle.singles.specs.Handling.{FindAsk, PlaceFound}
 
 -- the places before p have not the candidate

@@ -16,12 +16,12 @@ use Rattle.rules.specs.Grid.{Line, across, down}
 use Rattle.bits.specs.Bit.{bit}
 use Rattle.bits.specs.Sum.{sum_over}
 use Rattle.bits.proofs.SumLaws.{sum_has, sum_lone}
-use Rattle.slab.specs.Layout.{counters_at, row_half_at, col_half_at}
-use Rattle.slab.specs.Slab.{cand, Struck, CounterAsk}
-use Rattle.slab.proofs.SlabLaws.{cand_in, cand_lt}
-use Rattle.slab.proofs.StruckLaws.{grown_gone}
-use Rattle.slab.proofs.ReadyLaws.{ready_grown, ready_valid}
-use Rattle.slab.specs.Ready.{Ready}
+use Rattle.queue_state.specs.Layout.{counters_at, row_half_at, col_half_at}
+use Rattle.queue_state.specs.Slab.{cand, Struck, CounterAsk}
+use Rattle.queue_state.proofs.SlabLaws.{cand_in, cand_lt}
+use Rattle.queue_state.proofs.StruckLaws.{grown_gone}
+use Rattle.queue_state.proofs.ReadyLaws.{ready_grown, ready_valid}
+use Rattle.queue_state.specs.Ready.{Ready}
 use Rattle.table.specs.Value.{ValueOf}
 use Rattle.set_cell.proofs.MaskBits.{bit_test, mask_is}
 use Rattle.set_cell.specs.Setting.{SetHit, SetAsk}

@@ -3,9 +3,9 @@ use Prim.Native.Nat.{ℕ, ◌+◌, ◌*◌, ◌/◌, ◌%◌, ◌<◌}
 use mathlib.Core.Path.{◌≡◌}
 use mathlib.Core.List.{List}
 use native.Mathlib.Omega.{arith}
-use Rattle.slab.specs.Slab.{Grown}
-use Rattle.slab.proofs.ReadyLaws.{ready_grown, next_grown}
-use Rattle.slab.specs.Ready.{Ready, Next}
+use Rattle.queue_state.specs.Slab.{Grown}
+use Rattle.queue_state.proofs.ReadyLaws.{ready_grown, next_grown}
+use Rattle.queue_state.specs.Ready.{Ready, Next}
 use Rattle.counters.proofs.CounterLaws.{next_valid}
 use Rattle.singles.specs.Handling.{Handling}
 

@@ -7,8 +7,8 @@ use mathlib.Core.List.{List}
 use native.Mathlib.Omega.{arith}
 use Rattle.rules.specs.Grid.{across, down, index}
 use Rattle.table.specs.Table.{in_column, in_row}
-use Rattle.slab.specs.Layout.{places_at, value_place, row_blacks_at}
-use Rattle.slab.specs.Ready.{Next}
+use Rattle.queue_state.specs.Layout.{places_at, value_place, row_blacks_at}
+use Rattle.queue_state.specs.Ready.{Next}
 use Rattle.line_laws.proofs.CellValues.{value_range}
 use Rattle.counters.specs.Counters.{PlacesOf}
 use Rattle.counters.proofs.CounterLaws.{moved_wide, moved_both}

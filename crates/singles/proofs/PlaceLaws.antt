@@ -10,12 +10,12 @@ use Rattle.rules.specs.Grid.{Line, across, down, index}
 use Rattle.bits.specs.Sum.{sum_over}
 use Rattle.bits.proofs.SumLaws.{sum_same, sum_has, sum_lone}
 use Rattle.table.specs.Table.{places}
-use Rattle.slab.specs.Layout.{counters_at, places_at}
-use Rattle.slab.specs.Slab.{cand, table_in, Struck, CounterAsk}
-use Rattle.slab.proofs.SlabLaws.{cand_lt}
-use Rattle.slab.proofs.StruckLaws.{grown_gone}
-use Rattle.slab.proofs.ReadyLaws.{ready_grown, ready_valid}
-use Rattle.slab.specs.Ready.{Ready}
+use Rattle.queue_state.specs.Layout.{counters_at, places_at}
+use Rattle.queue_state.specs.Slab.{cand, table_in, Struck, CounterAsk}
+use Rattle.queue_state.proofs.SlabLaws.{cand_lt}
+use Rattle.queue_state.proofs.StruckLaws.{grown_gone}
+use Rattle.queue_state.proofs.ReadyLaws.{ready_grown, ready_valid}
+use Rattle.queue_state.specs.Ready.{Ready}
 use Rattle.set_cell.specs.Run.{Inside}
 use Rattle.set_cell.specs.Setting.{SetHit, SetAsk}
 use Rattle.line_laws.proofs.CellValues.{value_range}

@@ -7,9 +7,9 @@ use lib.ListN.{get_or, set}
 use Rattle.rules.specs.Grid.{Line, index}
 use Rattle.table.specs.Steps.{taken}
 use Rattle.table.specs.Lines.{row_of, column_of, cell_of}
-use Rattle.slab.specs.Layout.{counters_at}
-use Rattle.slab.specs.Slab.{table_in, Sized, Struck}
-use Rattle.slab.proofs.StruckLaws.{set_cand}
+use Rattle.queue_state.specs.Layout.{counters_at}
+use Rattle.queue_state.specs.Slab.{table_in, Sized, Struck}
+use Rattle.queue_state.proofs.StruckLaws.{set_cand}
 use Rattle.set_cell.specs.Setting.{SetHit}
 use Rattle.set_cell.proofs.SetLaws.{set_table}
 use Rattle.counters.proofs.Lines.{cell_is}

@@ -7,8 +7,8 @@ use mathlib.Core.List.{List}
 use native.Mathlib.Omega.{arith}
 use Rattle.rules.specs.Grid.{across, down, index}
 use Rattle.table.specs.Table.{in_column, in_row}
-use Rattle.slab.specs.Layout.{row_half_place, col_half_place}
-use Rattle.slab.specs.Ready.{Next}
+use Rattle.queue_state.specs.Layout.{row_half_place, col_half_place}
+use Rattle.queue_state.specs.Ready.{Next}
 use Rattle.counters.specs.Counters.{halves, HalvesOf}
 use Rattle.counters.proofs.CounterLaws.{moved_wide, moved_both}
 use Rattle.counters.proofs.Families.{half_moved}

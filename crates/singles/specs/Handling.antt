@@ -1,9 +1,9 @@
 -- What a handler of a strike asks and gives. Assumes nothing.
 use Rattle.std.specs.Prelude.{ℕ, ◌+◌, ◌*◌, ◌≤◌, ◌<◌, ◌≡◌, Bool, ◌&&◌, List, leb, ltb, length}
 use Rattle.rules.specs.Grid.{Line, across, down, index}
-use Rattle.slab.specs.Layout.{row_half_at, places_at, row_blacks_at, lengths_at, slab_size}
-use Rattle.slab.specs.Slab.{cand}
-use Rattle.slab.specs.Ready.{Ready, Next, Moved}
+use Rattle.queue_state.specs.Layout.{row_half_at, places_at, row_blacks_at, lengths_at, slab_size}
+use Rattle.queue_state.specs.Slab.{cand}
+use Rattle.queue_state.specs.Ready.{Ready, Next, Moved}
 use Rattle.table.specs.Value.{ValueOf}
 use Rattle.set_cell.specs.Run.{Inside}
 use Rattle.counters.specs.Counters.{in_line, halves_base, places_base, blacks_base, own_black, HalvesOf, PlacesOf, BlacksOf, Halves, LinePlaces, Blacks}

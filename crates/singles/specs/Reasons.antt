@@ -5,7 +5,7 @@ use Rattle.rules.specs.Grid.{Line, index}
 use Rattle.table.specs.Table.{Table, places, first_black, half}
 use Rattle.table.specs.Steps.{taken}
 use Rattle.table.specs.Lines.{row_of, column_of}
-use Rattle.slab.specs.Slab.{table_in}
+use Rattle.queue_state.specs.Slab.{table_in}
 
 -- The state's table is t.
 pub record TableIs (l : List ℕ) (t : Table) : Type 0 where

@@ -5,8 +5,8 @@
 ghost use Rattle.std.specs.Prelude.{◌≡◌, ◌<◌};
 ghost use Rattle.singles.specs.Handling.{HalfAsk, HalfDone, SingletonAsk, SingletonDone, FindAsk, PlaceFound, PlacesAsk, PlacesDone, HiddenAsk, HiddenDone, black_of, BlacksAsk, BlacksDone, ConsistencyAsk, ConsistencyDone};
 
+use queue_state::{Slab, clear_mask, lower};
 use set_cell::{in_column, in_row, set_cell};
-use slab::{Slab, clear_mask, lower};
 use value::Value;
 
 // The counter of a cell's half falls, if the struck value is of that half; a half with one candidate left is set to it.

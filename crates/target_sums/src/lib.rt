@@ -14,14 +14,14 @@ ghost use Rattle.target_sums.specs.Scanning.{Seen, Small, OneMore, BehindBlack, 
 use puzzle::{size_fits, targets_fit, wide};
 use units::Unit;
 
-#[derive(Drop)]
+#[derive(Clone, Copy)]
 pub enum Summed {
     Refused(u8),
     Done,
 }
 
 // What a walk along a line has found: blacks, empty cells between the first two, and the sum there.
-#[derive(Drop)]
+#[derive(Clone, Copy)]
 pub struct Scan {
     pub blacks: usize,
     pub empties: usize,

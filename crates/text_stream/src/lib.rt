@@ -9,21 +9,21 @@ ghost use Rattle.text_stream.specs.Stream.{Begun, FeedAsk, BlockFed, LastGiven};
 use text_line::answer_line;
 
 // What is kept of the line that is not ended yet.
-#[derive(Drop)]
+#[derive(Clone, Copy)]
 pub struct Stream {
     pub kept: [u8; 81],
     pub len: usize,
 }
 
 // The stream behind a block, and how many bytes are to be written for the block.
-#[derive(Drop)]
+#[derive(Clone, Copy)]
 pub struct Fed {
     pub stream: Stream,
     pub written: usize,
 }
 
 // How many bytes are kept, and how many are to be written.
-#[derive(Drop)]
+#[derive(Clone, Copy)]
 struct Counts {
     kept: usize,
     written: usize,

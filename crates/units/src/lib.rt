@@ -5,14 +5,14 @@ ghost use Rattle.std.specs.Prelude.{◌≡◌};
 ghost use Rattle.units.specs.Limits.{hall, classroom, takes_size, takes_list, list_limit};
 
 // How many marks a list may have.
-#[derive(Drop)]
+#[derive(Clone, Copy)]
 pub enum ListLimit {
     None,
     Marks(usize),
 }
 
 // A unit: the greatest size that it takes, and its limit for lists.
-#[derive(Drop)]
+#[derive(Clone, Copy)]
 pub struct Unit {
     pub greatest: usize,
     pub longest: ListLimit,

@@ -16,7 +16,7 @@ pub fn wide(x: u16) -> usize
     x as usize
 }
 
-#[derive(Drop)]
+#[derive(Clone, Copy)]
 pub struct Value {
     pub code: usize,
 }

@@ -10,7 +10,7 @@ ghost use Rattle.words.specs.Fill.{FillAsk, WordsFilled};
 
 use value::wide;
 
-#[derive(Drop)]
+#[derive(Clone, Copy)]
 pub struct Subset {
     pub code: u16,
 }

@@ -18,9 +18,9 @@ use Rattle.rules.specs.Grid.{digits}
 use Rattle.table.specs.Reading.{first, read_cell}
 use Rattle.bits.specs.Bit.{bit}
 use Rattle.bits.proofs.BitLaws.{bit_lt, bit_and_lem, bit_none, Lowest, trailing_lowest}
-use Rattle.slab.specs.Slab.{cand, table_in}
-use Rattle.slab.proofs.SlabLaws.{cand_in}
-use Rattle.slab.proofs.ReadyLaws.{ready_valid}
+use Rattle.queue_state.specs.Slab.{cand, table_in}
+use Rattle.queue_state.proofs.SlabLaws.{cand_in}
+use Rattle.queue_state.proofs.ReadyLaws.{ready_valid}
 use Rattle.table.specs.Value.{ValueOf}
 use Rattle.written.specs.Published.{WriteCellAsk}
 

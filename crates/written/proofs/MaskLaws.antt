@@ -21,10 +21,10 @@ use Rattle.table.specs.Table.{every_value, bit_of, has_bit, table_of}
 use Rattle.bits.specs.Bit.{bit}
 use Rattle.bits.proofs.BitLaws.{bit_le, bits_none}
 use Rattle.line_laws.proofs.CellValues.{value_of}
-use Rattle.slab.specs.Slab.{table_in}
-use Rattle.slab.proofs.SlabLaws.{cand_in}
-use Rattle.slab.proofs.ReadyLaws.{ready_valid, ready_unused}
-use Rattle.slab.specs.Ready.{Ready}
+use Rattle.queue_state.specs.Slab.{table_in}
+use Rattle.queue_state.proofs.SlabLaws.{cand_in}
+use Rattle.queue_state.proofs.ReadyLaws.{ready_valid, ready_unused}
+use Rattle.queue_state.specs.Ready.{Ready}
 use Rattle.table.specs.Value.{ValueOf}
 use Rattle.written.specs.Published.{mask, published, PublishedTable}
 

@@ -4,8 +4,8 @@ use Rattle.tally.specs.Tally.{span}
 use Rattle.rules.specs.Grid.{cell}
 use Rattle.table.specs.Table.{has_bit, bit_of}
 use Rattle.table.specs.Reading.{read_cell}
-use Rattle.slab.specs.Slab.{table_in}
-use Rattle.slab.specs.Ready.{Ready}
+use Rattle.queue_state.specs.Slab.{table_in}
+use Rattle.queue_state.specs.Ready.{Ready}
 use Rattle.table.specs.Value.{ValueOf}
 
 -- The mask of a cell as it is written: the digits keep their bits, the blacks move from 8 .. 11 to n - 1 .. n + 2.

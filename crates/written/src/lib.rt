@@ -4,8 +4,8 @@
 
 ghost use Rattle.std.specs.Prelude.{◌≡◌, ◌*◌, length};
 ghost use Rattle.table.specs.Reading.{read_off};
-ghost use Rattle.slab.specs.Slab.{table_in};
-ghost use Rattle.slab.specs.Ready.{Ready};
+ghost use Rattle.queue_state.specs.Slab.{table_in};
+ghost use Rattle.queue_state.specs.Ready.{Ready};
 ghost use Rattle.written.specs.Published.{mask_at, cell_byte, row_written, PublishedTable, WriteCellAsk, WriteRowAsk};
 
 use value::Value;

@@ -12,7 +12,7 @@ use borrow.Fn.PlainCycle.{Measures, is, falls, and}
 use Rattle.tally.proofs.TallyLaws.{and_left}
 use Rattle.backtrack.specs.Search.{Advanced, SearchAsk}
 use Rattle.table.specs.Reading.{open_cells, total}
-use Rattle.slab.specs.Slab.{table_in}
+use Rattle.queue_state.specs.Slab.{table_in}
 use Rattle.backtrack.proofs.SearchLaws.{Turn, turn_start, turn_capped, turn_none, turn_one, turn_ask, turn_searchable, turn_fewer, turn_less, turn_again}
 use Rattle.backtrack.proofs.search.Reads as search'
 use Rattle.backtrack.proofs.search.Kinds as search-kinds
@@ -22,7 +22,7 @@ use Rattle.backtrack.proofs.is_first.Reads as is-first-reads
 use Rattle.backtrack.proofs.settle.Reads as settle-reads
 use Rattle.copy.proofs.copy.Reads as copy-reads
 use Rattle.set_cell.proofs.set_cell.Reads as set-cell-reads
-use Rattle.slab.proofs.clear_value.Reads as clear-value-reads
+use Rattle.queue_state.proofs.clear_value.Reads as clear-value-reads
 use Rattle.backtrack.proofs.+search.{statement}
 use Rattle.backtrack.proofs.+search.Tie.{close}
 

@@ -5,7 +5,7 @@ use Prim.Native.Nat.{◌≤◌, ◌-◌}
 use borrow.Author.Rules.{rules}
 use Rattle.opening.proofs.SeedLaws.{queue_start, queue_next}
 use Rattle.opening.specs.Opening.{BareTo}
-use Rattle.slab.specs.Slab.{Struck}
+use Rattle.queue_state.specs.Slab.{Struck}
 use Rattle.opening.proofs.seed_queue.Statement.{statement}
 use Rattle.opening.proofs.seed_queue.Tie as tie
 

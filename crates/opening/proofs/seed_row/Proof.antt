@@ -5,7 +5,7 @@ use Prim.Native.Nat.{◌≤◌, ◌-◌}
 use borrow.Author.Rules.{rules}
 use Rattle.opening.proofs.SeedLaws.{row_start, row_next}
 use Rattle.opening.specs.Opening.{BareIn}
-use Rattle.slab.specs.Slab.{Struck}
+use Rattle.queue_state.specs.Slab.{Struck}
 use Rattle.opening.proofs.seed_row.Statement.{statement}
 use Rattle.opening.proofs.seed_row.Tie as tie
 

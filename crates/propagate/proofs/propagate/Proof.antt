@@ -4,7 +4,7 @@ use Prim.Native.Nat.{◌-◌, ◌/◌}
 use mathlib.Core.Path.{refl}
 use lib.ListN.{get_or}
 use borrow.Author.Rules.{rules, Fits-under}
-use Rattle.slab.specs.Layout.{queue_room, entry_place}
+use Rattle.queue_state.specs.Layout.{queue_room, entry_place}
 use Rattle.propagate.proofs.Loop.{Propagating, loop_start, loop_size, loop_tail, loop_cell, loop_ask, loop_empty, loop_next}
 use Rattle.propagate.proofs.Rest.{loop_end}
 use Rattle.propagate.proofs.propagate.Statement.{statement}

@@ -1,7 +1,7 @@
 -- `set_cell::clear_around` meets its contract. Assumes nothing.
 use native.Mathlib.Omega.{arith}
 use borrow.Author.Rules.{rules}
-use Rattle.slab.proofs.StruckLaws.{struck_both}
+use Rattle.queue_state.proofs.StruckLaws.{struck_both}
 use Rattle.set_cell.proofs.SetLaws.{ask_grown, ask_row, ask_column, some_struck, none_struck}
 use Rattle.set_cell.proofs.RunLaws.{sides_at}
 use Rattle.set_cell.proofs.clear_around.Statement.{statement}

@@ -2,7 +2,7 @@
 use Prim.Native.Nat.{◌-◌}
 use native.Mathlib.Omega.{arith}
 use borrow.Author.Rules.{rules}
-use Rattle.slab.proofs.StruckLaws.{grown_sized}
+use Rattle.queue_state.proofs.StruckLaws.{grown_sized}
 use Rattle.set_cell.proofs.RunLaws.{running_start, running_next, running_end}
 use Rattle.set_cell.specs.Run.{Running}
 use Rattle.set_cell.proofs.clear_run.Statement.{statement}

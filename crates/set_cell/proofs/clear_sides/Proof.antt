@@ -1,6 +1,6 @@
 -- `set_cell::clear_sides` meets its contract. Assumes nothing.
 use borrow.Author.Rules.{rules}
-use Rattle.slab.proofs.StruckLaws.{struck_both}
+use Rattle.queue_state.proofs.StruckLaws.{struck_both}
 use Rattle.set_cell.proofs.RunLaws.{sides_before, sides_behind}
 use Rattle.set_cell.proofs.clear_sides.Statement.{statement}
 use Rattle.set_cell.proofs.clear_sides.Tie as tie

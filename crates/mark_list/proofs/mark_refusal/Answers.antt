@@ -1,0 +1,19 @@
+-- `mark_list::mark_refusal` meets its contract. Assumes nothing.
+use borrow.Author.Rules.{rules}
+use Rattle.mark_list.proofs.MarkLaws.{mark_4, mark_5_row, mark_5_column, mark_0, mark_6}
+use Rattle.mark_list.proofs.mark_refusal.Goals as goal
+
+pub returns-then-word-ne0 : goal.returns-then-word-ne0
+returns-then-word-ne0 c = search (rules, mark_4)
+
+pub returns-then-n-m : goal.returns-then-n-m
+returns-then-n-m c = search (rules, mark_5_row)
+
+pub returns-then-n-m-2 : goal.returns-then-n-m-2
+returns-then-n-m-2 c = search (rules, mark_5_column)
+
+pub returns-then-is_named : goal.returns-then-is_named
+returns-then-is_named c = search (rules, mark_0)
+
+pub returns-else-is_named : goal.returns-else-is_named
+returns-else-is_named c = search (rules, mark_6)

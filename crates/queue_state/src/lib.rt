@@ -1,0 +1,87 @@
+// The state of the queue solver in one slice of numbers, and its primitives (in the Rust: QueueSolverState and clear_mask).
+// What stands where is said twice, by the same names: here for the code, in specs/Layout.antt for the definitions.
+// A cell has the place row * 9 + column, a line the number row or 9 + column, at every size.
+#![tactic(auto)]
+
+ghost use Rattle.std.specs.Prelude.{◌≡◌, ◌-◌, ◌<◌, get_or, set};
+ghost use Rattle.queue_state.specs.Slab.{Sized, Struck, One, Masked, StrikeAsk, CounterAsk};
+
+use value::wide;
+
+#[derive(Clone, Copy)]
+pub struct Slab {
+    pub len: usize,
+}
+
+impl Slab {
+    // The candidates of the 81 cells stand first, then the queue of strikes, then how many it has.
+    pub const QUEUE: usize = 81;
+
+    pub const QUEUE_ROOM: usize = 81 * 11;
+
+    pub const TAIL: usize = Slab::QUEUE + Slab::QUEUE_ROOM;
+    // How many candidates a cell's row half and its column half have.
+    pub const ROW_HALF: usize = Slab::TAIL + 1;
+
+    pub const COL_HALF: usize = Slab::ROW_HALF + 81;
+    // How many places a value has in a line: line * 16 + value.
+    pub const PLACES: usize = Slab::COL_HALF + 81;
+    // How many row blacks and column blacks a cell has.
+    pub const ROW_BLACKS: usize = Slab::PLACES + 18 * 16;
+
+    pub const COL_BLACKS: usize = Slab::ROW_BLACKS + 81;
+    // How many live arrangements a line has, and which: line * PER_LINE + place in the list.
+    pub const LENGTHS: usize = Slab::COL_BLACKS + 81;
+
+    pub const LIVE: usize = Slab::LENGTHS + 18;
+
+    pub const PER_LINE: usize = 78;
+    // How many live arrangements of a line have a value at a place: (line * 9 + place) * 16 + value.
+    pub const SUPPORT: usize = Slab::LIVE + 18 * Slab::PER_LINE;
+
+    pub const SIZE: usize = Slab::SUPPORT + 18 * 9 * 16;
+}
+
+// Strikes a candidate that the cell has: it leaves the table and enters the queue.
+fn strike(st: &mut [u16], cell: usize, v: usize)
+    requires { StrikeAsk st.old cell v }
+    ensures { Struck st.old st.new (One cell v) }
+{
+    let t = wide(st[Slab::TAIL]);
+    st[cell] = st[cell] - (1u16 << v);
+    st[Slab::QUEUE + t] = (cell * 16 + v) as u16;
+    st[Slab::TAIL] = (t + 1) as u16;
+}
+
+// Strikes a candidate if the cell has it.
+pub fn clear_value(st: &mut [u16], cell: usize, v: usize)
+    requires { Sized st.old × (cell < 81) × (v < 16) }
+    ensures { Struck st.old st.new (One cell v) }
+{
+    if (st[cell] >> v) % 2 == 1 {
+        strike(st, cell, v);
+    }
+}
+
+// Strikes the candidates of a mask that the cell has, the lowest first.
+pub fn clear_mask(st: &mut [u16], cell: usize, mask: u16)
+    requires { Sized st.old × (cell < 81) }
+    ensures { Struck st.old st.new (Masked cell mask) }
+{
+    let mut rest = st[cell] & mask;
+    while rest != 0 {
+        let v = u16::trailing_zeros(rest) as usize;
+        strike(st, cell, v);
+        rest = rest - (1u16 << v);
+    }
+}
+
+// A counter falls by one; gives what is left.
+pub fn lower(st: &mut [u16], p: usize) -> u16
+    requires { CounterAsk st.old p }
+    ensures { (result ≡ get_or st.old p 0 - 1) × (st.new ≡ set st.old p (get_or st.old p 0 - 1)) }
+{
+    let left = st[p] - 1;
+    st[p] = left;
+    left
+}

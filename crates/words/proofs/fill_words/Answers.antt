@@ -1,0 +1,24 @@
+-- `words::fill_words` meets its contract. Assumes nothing.
+use mathlib.Core.Logic.{⊎_elim}
+use Rattle.words.specs.Word.{subset, subset_table}
+use Rattle.words.proofs.FillLaws.{filled_start, filled_ask, filled_next, filled_skip, filled_end}
+use Rattle.words.proofs.fill_words.Goals as goal
+
+pub loop-s-init : goal.loop-s-init
+loop-s-init c = filled_start _ _ c.requires.1
+
+pub fill_starts-requires : goal.fill_starts-requires
+unfolding subset subset_table
+fill_starts-requires c =
+    filled_ask c.requires.0 c.loop-s.invariant c.loop-s-test.true c.if-x-top.true
+
+pub loop-s-preserved : goal.loop-s-preserved
+unfolding subset subset_table
+loop-s-preserved c =
+    let z = c.requires.0 in
+    let g = c.loop-s.invariant in
+    let h = c.loop-s-test.true in
+    ⊎_elim (λ w. rw w.5 (filled_next z g h w.2.ensures)) (λ w. rw w.1 (filled_skip z g h w.0.left)) c.if-x-top.branch
+
+pub returns : goal.returns
+returns c = filled_end c.loop-s.invariant c.loop-s-test.false

@@ -1,0 +1,16 @@
+-- `words::inner_places` meets its contract. Assumes nothing.
+use borrow.Author.Rules.{Fits-under}
+use Rattle.words.proofs.CodeLaws.{run_enough, line_positive, inner_fits, inner_code}
+use Rattle.words.proofs.inner_places.Goals as goal
+
+pub overflow_sub-run : goal.overflow_sub-run
+overflow_sub-run c = run_enough _ _ _ c.requires.0 c.requires.1 c.requires.2
+
+pub nonzero_rem-result : goal.nonzero_rem-result
+nonzero_rem-result c = line_positive _ _ _ c.requires.0 c.requires.1 c.requires.2
+
+pub overflow_add-result : goal.overflow_add-result
+overflow_add-result c = Fits-under _ _ 512 (inner_fits _ _ _ c.requires.0 c.requires.1 c.requires.2) tt
+
+pub returns : goal.returns
+returns c = inner_code _ _ _ c.requires.0 c.requires.1 c.requires.2
