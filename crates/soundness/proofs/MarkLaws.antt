@@ -132,7 +132,7 @@ marks_kept t [] i j w e = e
 marks_kept t (m ∷ ms) i j w e = marked_kept t m i j w (marks_kept (marked t m) ms i j w e)
 
 -- what one mark strikes of any table is gone after all of them
-marks_gone : (t : Table) (i j w : ℕ) {m : ℕ} {ms : List ℕ} → Memᴰ m ms → ((u : Table) → marked u m i j w ≡ false) → marked_all t ms i j w ≡ false
+marks_gone : {m : ℕ} (t : Table) (i j w : ℕ) {ms : List ℕ} → Memᴰ m ms → ((u : Table) → marked u m i j w ≡ false) → marked_all t ms i j w ≡ false
 unfolding marked_all
 marks_gone t i j w (Memᴰ.head {x = x} {xs = xs} e) f =
     false_of (marked_all (marked t x) xs i j w) (λ s. true≢false (sym (marks_kept (marked t x) xs i j w s) ∙ subst (λ y. marked t y i j w ≡ false) e (f t)))

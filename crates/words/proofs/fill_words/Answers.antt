@@ -1,8 +1,8 @@
 -- `words::fill_words` meets its contract. Assumes nothing.
-use mathlib.Core.Logic.{⊎_elim}
 use Rattle.words.specs.Word.{subset, subset_table}
 use Rattle.words.proofs.FillLaws.{filled_start, filled_ask, filled_next, filled_skip, filled_end}
 use Rattle.words.proofs.fill_words.Goals as goal
+use Rattle.words.proofs.fill_words.Goals.{then-x-top, else-x-top}
 
 pub loop-s-init : goal.loop-s-init
 loop-s-init c = filled_start _ _ c.requires.1
@@ -18,7 +18,10 @@ loop-s-preserved c =
     let z = c.requires.0 in
     let g = c.loop-s.invariant in
     let h = c.loop-s-test.true in
-    ⊎_elim (λ w. rw w.5 (filled_next z g h w.2.ensures)) (λ w. rw w.1 (filled_skip z g h w.0.left)) c.if-x-top.branch
+    elim c.if-x-top.branch [
+      | then-x-top w ↦ rw w.words-is (filled_next z g h w.fill_starts.ensures)
+      | else-x-top w ↦ rw w.words-is (filled_skip z g h w.if-x-top.false)
+    ]
 
 pub returns : goal.returns
 returns c = filled_end c.loop-s.invariant c.loop-s-test.false
