@@ -1,0 +1,16 @@
+-- `arcs::drop_support` meets its contract. Assumes nothing.
+use Rattle.arcs.proofs.SunkLaws.{drop_countable, drop_clear, drop_stays, drop_strikes}
+use Rattle.arcs.proofs.drop_support.Goals as goal
+
+pub lower-requires : goal.lower-requires
+lower-requires c = drop_countable c.requires
+
+pub clear_value-requires : goal.clear_value-requires
+clear_value-requires c = drop_clear c.requires c.lower.ensures
+
+pub returns-then-lower-eq0 : goal.returns-then-lower-eq0
+returns-then-lower-eq0 c =
+    drop_strikes c.requires c.lower.ensures c.if-lower-eq0.true c.clear_value.ensures
+
+pub returns-else-lower-eq0 : goal.returns-else-lower-eq0
+returns-else-lower-eq0 c = drop_stays c.requires c.lower.ensures c.if-lower-eq0.false
