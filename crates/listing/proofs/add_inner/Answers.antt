@@ -1,10 +1,10 @@
 -- `listing::add_inner` meets its contract. Assumes nothing.
 use mathlib.Core.Path.{◌≡◌}
 use native.Mathlib.Omega.{arith}
-use mathlib.Core.Logic.{⊎_elim}
 use Rattle.listing.proofs.RaiseLaws.{inner_start, inner_can, inner_yes, inner_no}
 use borrow.Author.Rules.{rules}
 use Rattle.listing.proofs.add_inner.Goals as goal
+use Rattle.listing.proofs.add_inner.Goals.{then-inner-p-eq1, else-inner-p-eq1}
 
 pub loop-p-init : goal.loop-p-init
 loop-p-init c = (search rules, inner_start _ _ _)
@@ -18,7 +18,10 @@ loop-p-preserved c =
     let r = c.loop-p.invariant.1 in
     let e = c.set_of-set.ensures in (
       search rules,
-      ⊎_elim (λ w. rw w.5 (inner_yes _ _ _ r _ e w.0.taken w.2.ensures)) (λ w. rw w.1 (inner_no _ _ _ r w.0.left)) c.if-inner-p-eq1.branch,
+      elim c.if-inner-p-eq1.branch [
+        | then-inner-p-eq1 w ↦ rw w.st-is (inner_yes _ _ _ r _ e w.if-inner-p-eq1.true w.add_digits.ensures)
+        | else-inner-p-eq1 w ↦ rw w.st-is (inner_no _ _ _ r w.if-inner-p-eq1.false)
+      ],
     )
 
 pub returns : goal.returns

@@ -1,7 +1,7 @@
 -- `listing::list_starts` meets its contract. Assumes nothing.
-use mathlib.Core.Logic.{⊎_elim}
 use Rattle.listing.proofs.AddLaws.{adding_start, starts_ask, starts_next, starts_skip, starts_end}
 use Rattle.listing.proofs.list_starts.Goals as goal
+use Rattle.listing.proofs.list_starts.Goals.{then-on_side, else-on_side}
 
 pub loop-start-init : goal.loop-start-init
 loop-start-init c = adding_start c.requires.0
@@ -14,9 +14,10 @@ pub loop-start-preserved : goal.loop-start-preserved
 loop-start-preserved c =
     let g = c.loop-start.invariant in
     let h = c.loop-start-test.true in
-    ⊎_elim
-    (λ w. rw w.5 (starts_next _ _ _ _ g _ c.on_side.ensures h w.0.taken w.2.ensures))
-    (λ w. rw w.1 (starts_skip _ _ _ _ g _ c.on_side.ensures h w.0.left)) c.if-on_side.branch
+    elim c.if-on_side.branch [
+      | then-on_side w ↦ rw w.st-is (starts_next _ _ _ _ g _ c.on_side.ensures h w.if-on_side.true w.add_arrangement.ensures)
+      | else-on_side w ↦ rw w.st-is (starts_skip _ _ _ _ g _ c.on_side.ensures h w.if-on_side.false)
+    ]
 
 pub returns : goal.returns
 returns c = starts_end _ _ _ _ c.loop-start.invariant c.loop-start-test.false

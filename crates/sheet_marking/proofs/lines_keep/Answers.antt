@@ -2,7 +2,6 @@
 use Prim.Native.Nat.{◌-◌}
 use mathlib.Core.Path.{◌≡◌, sym, ◌∙◌}
 use native.Mathlib.Omega.{arith}
-use borrow.Author.Tests.{not-true, not-false}
 use borrow.Author.Rules.{rules}
 use Rattle.rules.proofs.EachLaws.{below_yes, below_no, below_end}
 use Rattle.sheet_marking.proofs.FaultLaws.{keeps_told}
@@ -22,12 +21,12 @@ line_fault-requires c =
 pub returns-then-not-is_none : goal.returns-then-not-is_none
 returns-then-not-is_none c =
     let k = keeps_told _ _ _ _ _ c.line_fault.ensures c.is_none.ensures in
-    sym (c.loop-i.invariant.1 ∙ below_no _ c.loop-i.i _ c.loop-i-test.true (sym k ∙ not-true _ c.if-not-is_none.true))
+    sym (c.loop-i.invariant.1 ∙ below_no _ c.loop-i.i _ c.loop-i-test.true (sym k ∙ c.if-not-is_none.true))
 
 pub loop-i-preserved : goal.loop-i-preserved
 loop-i-preserved c =
     let k = keeps_told _ _ _ _ _ c.line_fault.ensures c.is_none.ensures in
-    (search rules, c.loop-i.invariant.1 ∙ below_yes _ c.loop-i.i _ c.loop-i-test.true (sym k ∙ not-false _ c.if-not-is_none.false))
+    (search rules, c.loop-i.invariant.1 ∙ below_yes _ c.loop-i.i _ c.loop-i-test.true (sym k ∙ c.if-not-is_none.false))
 
 pub returns : goal.returns
 returns c = sym (c.loop-i.invariant.1 ∙ below_end _ c.loop-i.i _ c.loop-i-test.false)
