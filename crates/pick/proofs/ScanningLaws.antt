@@ -15,15 +15,15 @@ pub sought_start : (n : ℕ) (l : List ℕ) → Sought n l 0 (record { cell = 81
 sought_start n l = record { found = λ h. absurd (h refl); none = λ _ x h. absurd (omega arith) }
 
 -- one cell more
-pub sought_next : {n : ℕ} {l : List ℕ} {best next : Best} {free : ℕ} (r c : ℕ) → Size n → Sought n l (r * 9 + c) best → r < n → c < n →
+pub sought_next : (r c : ℕ) {n : ℕ} {l : List ℕ} {best next : Best} {free : ℕ} → Size n → Sought n l (r * 9 + c) best → r < n → c < n →
     free ≡ row_choices l (r * 9 + c) → Looked best (r * 9 + c) free next → Sought n l (r * 9 + (c + 1)) next
 sought_next r c z s row column e (settled h) =
     record {
       found = s.found;
       none = λ a x g f. elim (ℕ_discrete x (r * 9 + c)) [ yes q ↦ rw q (omega arith) | no q ↦ s.none a x (omega arith) f ];
     }
-sought_next {l = l} r c z s row column e (worse h) = record { found = s.found; none = λ a. absurd (omega (arith, choices_most l (r * 9 + c))) }
-sought_next {l = l} r c z s row column e (better h) =
+sought_next r c {l = l} z s row column e (worse h) = record { found = s.found; none = λ a. absurd (omega (arith, choices_most l (r * 9 + c))) }
+sought_next r c {l = l} z s row column e (better h) =
     record {
       found = λ _. record { row = omega (arith, z.high); column = omega (arith, z.high); many = omega arith };
       none = λ a. absurd (omega (arith, choices_most l (r * 9 + c)));

@@ -1,9 +1,9 @@
 -- `pick::pick_value` meets its contract: the best of the candidates that were looked at. Assumes nothing.
 use native.Mathlib.Omega.{arith}
-use mathlib.Core.Logic.{⊎_elim}
 use borrow.Author.Rules.{Fits-under}
 use Rattle.pick.proofs.ValueLaws.{choosing_start, choosing_value, choosing_candidate, choosing_enough, choosing_less, choosing_next}
 use Rattle.pick.proofs.pick_value.Goals as goal
+use Rattle.pick.proofs.pick_value.Goals.{then-support-least, else-support-least}
 
 pub overflow_cast-best : goal.overflow_cast-best
 overflow_cast-best c =
@@ -40,7 +40,7 @@ pub loop-rest-preserved : goal.loop-rest-preserved
 loop-rest-preserved c =
     let v = c.loop-rest.invariant in
     let h = c.loop-rest-test.true in
-    choosing_next v h (⊎_elim (λ w. rw w.1 (choosing_candidate v h)) (λ w. rw w.1 v.chosen) c.if-support-least.branch)
+    choosing_next v h (elim c.if-support-least.branch [ then-support-least w ↦ rw w.best-is (choosing_candidate v h) | else-support-least w ↦ rw w.best-is v.chosen ])
 
 pub returns : goal.returns
 returns c = c.loop-rest.invariant.chosen
