@@ -7,15 +7,17 @@ use mathlib.Core.Path.{◌≡◌}
 use mathlib.Core.Bool.{true, false}
 use mathlib.Core.List.{List, [], ◌++◌}
 use lib.Dec.{ltb, leb, eqb}
-use lib.ListN.{length, get_or, take, drop, drop_of_length-le}
+use lib.ListN.{length, get_or, take, drop, drop_of_length-le, length-append, length-drop}
 use lib.Seq.{take-length, take-append_seam, drop-cons}
 use borrow.Author.Tests.{lt-ltb, le-ltb, le-leb, lt-leb, leb-true}
 use Rattle.tally.proofs.TallyLaws.{and_left, and_right}
 use Rattle.record_fields.specs.Fields.{field_start, slice, field, tag, field_count, record_length, readable, number_from}
 
 -- What a copy into a longer list begins with.
-pub copied : (src dst out : List ℕ) → out ≡ take (length src) src ++ drop (length src) dst → take (length src) out ≡ src
-copied src dst out e = rw (e, take-length src) (take-append_seam src (drop (length src) dst))
+pub copied : (src new rest : List ℕ) → new ≡ src → length src ≤ length rest →
+    (length (new ++ drop (length src) rest) ≡ length rest) × (take (length src) (new ++ drop (length src) rest) ≡ src)
+copied src new rest e h =
+    rw e (simp (length-append, length-drop) (omega arith), take-append_seam src (drop (length src) rest))
 
 module _ (xs : List ℕ) where
   -- The next field begins where a field ends.

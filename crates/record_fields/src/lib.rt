@@ -3,7 +3,7 @@
 #![tactic(auto)]
 
 ghost use Rattle.std.specs.Prelude.{◌≡◌, ◌∷◌, [], ◌≤◌, ◌<◌, length, get_or, take};
-ghost use Rattle.record_fields.specs.Fields.{field_start, field_count, field as Fields·field, record_size, number_from, readable};
+ghost use Rattle.record_fields.specs.Fields.{field_start, field_count, field as field_of, record_size, number_from, readable};
 ghost use Rattle.record_fields.specs.Recorded.{Says, SumsRecorded, LongNumber, CountRecorded, BufferRecorded};
 
 use puzzle::wide;
@@ -60,7 +60,7 @@ pub fn field_start(list: &[u8], k: usize) -> usize
 // Field k.
 pub fn field(list: &[u8], k: usize) -> &[u8]
     requires { k < 8 }
-    ensures { result.now ≡ Fields·field list.now k }
+    ensures { result.now ≡ field_of list.now k }
 {
     let start = field_start(list, k) + 2;
     let end = field_start(list, k + 1);
@@ -110,15 +110,15 @@ pub fn size(list: &[u8]) -> usize
 // Whether field k is these bytes.
 pub fn is_field(list: &[u8], k: usize, content: &[u8]) -> bool
     requires { k < 8 }
-    ensures { Says result (Fields·field list.now k ≡ content.now) }
+    ensures { Says result (field_of list.now k ≡ content.now) }
 {
-    check::same(field(list, k), content)
+    field(list, k) == content
 }
 
 // Whether field k is one byte, the number.
 pub fn is_number(list: &[u8], k: usize, number: u8) -> bool
     requires { k < 8 }
-    ensures { Says result (Fields·field list.now k ≡ number ∷ []) }
+    ensures { Says result (field_of list.now k ≡ number ∷ []) }
 {
     let content = [number];
     is_field(list, k, &content)
@@ -130,7 +130,7 @@ pub fn buffer(content: &[u8]) -> [u8; 256]
     ensures { (length result ≡ 256) × (take (length content.now) result ≡ content.now) }
 {
     let mut room = [0u8; 256];
-    bytes::copy(content, &mut room);
+    room[..content.len()].copy_from_slice(content);
     room
 }
 
@@ -160,7 +160,7 @@ pub fn buffer_recorded(list: &[u8], number: u8, content: &[u8]) -> bool
 // Whether field k is 8 bytes, the number.
 pub fn is_long_number(list: &[u8], k: usize, v: u64) -> bool
     requires { k < 8 }
-    ensures { Says result (LongNumber v (Fields·field list.now k)) }
+    ensures { Says result (LongNumber v (field_of list.now k)) }
 {
     let bytes = field(list, k);
     if bytes.len() != 8 {

@@ -1,0 +1,100 @@
+-- `backtrack::search` meets its contract. Assumes nothing.
+use mathlib.Core.Path.{◌≡◌, refl, sym, ◌∙◌}
+use mathlib.Core.Bool.{Bool, true, ◌&&◌, true≢false}
+use mathlib.Core.List.{List}
+use native.Mathlib.Omega.{arith}
+use lib.Dec.{eqb}
+use lib.ListN.{length}
+use Prim.Native.Nat.{ℕ, ◌*◌}
+use Rattle.tally.proofs.TallyLaws.{and_left}
+use Rattle.backtrack.specs.Search.{SearchAsk}
+use Rattle.backtrack.proofs.SearchLaws.{Turn, turn_start, turn_capped, turn_none, turn_one, turn_ask, turn_searchable, turn_fewer, turn_less, turn_again}
+use Rattle.backtrack.proofs.+search.Goals as goal
+
+-- the cells have room if the next grid is the first that is wanted
+first_fits : {n : ℕ} {ws l₀ l : List ℕ} {max found : ℕ} {wanted first : Bool} {cells₀ cells : List ℕ} → Turn n ws l₀ max wanted cells₀ l found cells →
+    SearchAsk n ws l₀ wanted (length cells₀) → first ≡ (wanted && eqb found 0) → first ≡ true → length cells ≡ n * n
+first_fits t s f e = t.room ∙ s.fits (and_left _ _ (sym f ∙ e))
+
+pub loop-found-init : goal.loop-found-init
+loop-found-init t c = turn_start _ c.requires
+
+pub settle-requires : goal.settle-requires
+settle-requires t c = record { ready = λ e. absurd (true≢false (sym e)); fits = first_fits c.loop-found.invariant c.requires c.is_first.ensures }
+
+pub overflow_add-result : goal.overflow_add-result
+overflow_add-result t c = omega (arith, c.loop-found-test.true, c.settle.ensures.none refl)
+
+pub returns-in-Contradicted : goal.returns-in-Contradicted
+returns-in-Contradicted t c =
+    let a = c.in-Contradicted.ensures in
+    turn_none c.loop-found.invariant (omega (arith, c.loop-found-test.true)) a c.settle.ensures
+
+pub settle-requires-in-Settled : goal.settle-requires-in-Settled
+settle-requires-in-Settled t c =
+    let a = c.in-Settled.ensures in
+    record { ready = λ _. a.ready; fits = first_fits c.loop-found.invariant c.requires c.is_first-in-Settled.ensures }
+
+pub overflow_add-result-in-Settled : goal.overflow_add-result-in-Settled
+overflow_add-result-in-Settled t c = omega (arith, c.loop-found-test.true, c.settle-in-Settled.ensures.one refl)
+
+pub returns-in-Settled : goal.returns-in-Settled
+returns-in-Settled t c =
+    let a = c.in-Settled.ensures in
+    turn_one c.loop-found.invariant (omega (arith, c.loop-found-test.true)) a c.is_first-in-Settled.ensures c.settle-in-Settled.ensures
+
+pub set_cell-requires : goal.set_cell-requires
+set_cell-requires t c =
+    let u = c.loop-found.invariant in
+    let f = c.requires.fits in
+    let h = c.loop-found-test.true in
+    let a = c.in-Branch.ensures in
+    turn_ask u f h a c.copy.ensures
+
+pub search-found-requires : goal.search-found-requires
+search-found-requires t c =
+    let u = c.loop-found.invariant in
+    let f = c.requires.fits in
+    let h = c.loop-found-test.true in
+    let a = c.in-Branch.ensures in
+    let e = c.copy.ensures in
+    let d = c.set_cell.ensures in
+    (rw (← c.decreases) (turn_fewer u f h a e d), turn_searchable u f h a e d c.is_first-in-Branch.ensures)
+
+pub overflow_add-found : goal.overflow_add-found
+overflow_add-found t c = omega (arith, c.loop-found-test.true, c.search-found.ensures.most, c.ranges.max)
+
+pub clear_value-requires : goal.clear_value-requires
+clear_value-requires t c =
+    let a = c.in-Branch.ensures in
+    let z = a.propagable.lagging.ready in
+    (z.sized, omega (arith, z.size.high, a.branch.opened.row), omega (arith, a.branch.candidate.high))
+
+pub loop-found-smaller : goal.loop-found-smaller
+loop-found-smaller t c =
+    let u = c.loop-found.invariant in
+    let f = c.requires.fits in
+    let h = c.loop-found-test.true in
+    let a = c.in-Branch.ensures in
+    let e = c.copy.ensures in
+    let d = c.set_cell.ensures in
+    let i = c.is_first-in-Branch.ensures in
+    let r = c.search-found.ensures in
+    let g = c.clear_value.ensures in
+    turn_less u f h a e d i r c.search-found.auto.cells g
+
+pub loop-found-preserved : goal.loop-found-preserved
+loop-found-preserved t c =
+    let u = c.loop-found.invariant in
+    let f = c.requires.fits in
+    let h = c.loop-found-test.true in
+    let a = c.in-Branch.ensures in
+    let e = c.copy.ensures in
+    let d = c.set_cell.ensures in
+    let i = c.is_first-in-Branch.ensures in
+    let r = c.search-found.ensures in
+    let g = c.clear_value.ensures in
+    turn_again u f h a e d i r c.search-found.auto.cells g
+
+pub returns : goal.returns
+returns t c = turn_capped c.loop-found.invariant (omega (arith, c.loop-found-test.false))
