@@ -1,0 +1,13 @@
+-- `text_line::solve_targets` meets its contract. Assumes nothing.
+use borrow.Author.Rules.{rules}
+use Rattle.text_line.proofs.PuzzleTextLaws.{rows_long, solve_shown, solve_text}
+use Rattle.text_line.proofs.solve_targets.Goals as goal
+
+pub slice_bounds-solve-end : goal.slice_bounds-solve-end
+slice_bounds-solve-end c = search (rules, rows_long)
+
+pub write_answer-requires : goal.write_answer-requires
+write_answer-requires c = solve_shown c.requires c.solve-answer.ensures c.solve-answer.auto.1.1.1.1.1.0
+
+pub returns : goal.returns
+returns c = solve_text c.requires c.solve-answer.ensures c.solve-answer.auto.1.1.1.1.1.0 c.write_answer.ensures
