@@ -10,10 +10,10 @@ pub returns-then-count-eq0 : goal.returns-then-count-eq0
 returns-then-count-eq0 c = line_11 c.read_numbers-count.ensures c.if-out-lt100.false c.if-count-eq0.true c.write_refused.ensures
 
 pub slice_bounds-answer_numbers-end : goal.slice_bounds-answer_numbers-end
-slice_bounds-answer_numbers-end c = line_count c.read_numbers-count.ensures c.read_numbers-count.auto.1.0
+slice_bounds-answer_numbers-end c = line_count c.read_numbers-count.ensures c.read_numbers-count.auto.numbers
 
 pub answer_numbers-requires : goal.answer_numbers-requires
-answer_numbers-requires c = line_ask c.read_numbers-count.ensures c.if-count-eq0.false c.read_numbers-count.auto.1.0 c.if-out-lt100.false
+answer_numbers-requires c = line_ask c.read_numbers-count.ensures c.if-count-eq0.false c.read_numbers-count.auto.numbers c.if-out-lt100.false
 
 pub returns : goal.returns
 returns c = line_numbers c.read_numbers-count.ensures c.if-out-lt100.false c.if-count-eq0.false c.answer_numbers.ensures
