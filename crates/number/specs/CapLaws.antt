@@ -1,10 +1,8 @@
 -- The count under a cap. Assumes nothing.
-use Rattle.std.specs.Prelude.{ℕ, ◌+◌, ◌-◌, ◌≤◌, ◌<◌, min, ◌≡◌, List, ◌∷◌}
+use Rattle.std.specs.Prelude.{ℕ, ◌+◌, ◌-◌, ◌≤◌, ◌<◌, min, ◌≡◌, List}
 use Rattle.std.proofs.Common.{arith}
 use Rattle.rules.specs.Grid.{Puzzle}
 use Rattle.rules.specs.Number.{number, capped}
-use Rattle.number.specs.MarkLaws.{opposite}
-use Rattle.number.specs.NumberLaws.{number_split}
 
 -- the cap 0 gives 0
 pub capped_zero : (p : Puzzle) (ms : List ℕ) → capped 0 p ms ≡ 0
@@ -29,8 +27,3 @@ capped_below p ms c h = omega arith
 -- two parts share a cap: the second gets what the first leaves of it
 pub cap_split : (c a b : ℕ) → min c (a + b) ≡ min c a + min (c - min c a) b
 cap_split c a b = omega arith
-
--- so a count goes by way of a mark: first with the mark, then with its opposite under what is left of the cap
-pub capped_split : (p : Puzzle) (m : ℕ) (ms : List ℕ) (c : ℕ) → m < 65536 → capped c p ms ≡ capped c p (m ∷ ms) + capped (c - capped c p (m ∷ ms)) p (opposite m ∷ ms)
-unfolding capped
-capped_split p m ms c h = omega (arith, number_split p m ms h)
