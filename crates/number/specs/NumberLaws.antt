@@ -1,9 +1,9 @@
 -- The number under other lists of marks. Assumes nothing.
-use Rattle.std.specs.Prelude.{ℕ, ◌+◌, ◌≤◌, ◌<◌, ◌≡◌, refl, Bool, true, false, not, ◌&&◌}
-use Rattle.std.proofs.Common.{sym, ap, ap₂, ◌∙◌, true≢false}
+use Rattle.std.specs.Prelude.{ℕ, ◌≤◌, ◌≡◌, true, ◌&&◌}
+use Rattle.std.proofs.Common.{ap}
 use mathlib.Core.List.{List, ◌∷◌, ◌++◌, Permᴰ, Memᴰ}
 use Rattle.tally.specs.Tally.{all}
-use Rattle.tally.proofs.TallyLaws.{and_right, and_map, all_less, all_perm, count_split, count_le, count_ext, count_never, test_ext}
+use Rattle.tally.proofs.TallyLaws.{and_right, and_map, all_less, all_perm, count_le, count_ext, test_ext}
 use Rattle.tally.proofs.WayLaws.{all_each}
 use Rattle.rules.specs.Grid.{Puzzle, keeps}
 use Rattle.rules.specs.Mark.{keeps_mark}

@@ -1,7 +1,6 @@
 -- None, exactly one and several grids, told apart by the number. Assumes nothing.
 use Rattle.std.specs.Prelude.{ℕ, zero, suc, ◌*◌, ◌≤◌, ◌<◌, min, ◌≡◌, refl, Bool, true, false, List}
 use Rattle.std.proofs.Common.{sym, ap, ◌∙◌, true≢false, arith}
-use Rattle.tally.specs.Tally.{count}
 use Rattle.tally.proofs.TallyLaws.{count_none, count_one, same_list, same_refl, same_eq}
 use Rattle.tally.proofs.WayLaws.{count_find, count_some, count_two, count_another}
 use Rattle.rules.proofs.GridLaws.{solution_way, way_solution, symbols_once}
