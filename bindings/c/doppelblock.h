@@ -2,8 +2,8 @@
  * Doppelblock key engine: the functions of libdoppelblock.a and, those with
  * `classroom` in their names, of libdoppelblock_classroom.a.
  *
- * Build them with `rt staticlib doppelblock` and `rt staticlib
- * doppelblock_classroom`; they are then in target/staticlib, for x86-64 Linux.
+ * Build them with `bindings/build`; they are then in target/staticlib, for x86-64
+ * Linux.
  * Link one or both. They need nothing beyond the C library, hold no state
  * between calls and may be called from any thread.
  * Count and solve call themselves; a thread with a stack of 2 MiB has room.

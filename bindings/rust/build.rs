@@ -1,5 +1,4 @@
-//! Links the libraries of the hall and of the classrooms, which the engine's own tool
-//! writes.
+//! Links the libraries of the hall and of the classrooms, which bindings/build makes.
 
 use std::path::{Path, PathBuf};
 use std::{env, process};
@@ -16,13 +15,13 @@ fn main() {
         let library = folder.join(format!("lib{name}.a"));
         println!("cargo::rerun-if-changed={}", library.display());
         if !library.is_file() {
-            refuse(name, &library);
+            refuse(&library);
         }
         println!("cargo::rustc-link-lib=static={name}");
     }
 }
 
-/// The folder named by the environment, else the one that the tool writes to.
+/// The folder named by the environment, else the one that bindings/build writes to.
 fn folder() -> PathBuf {
     match env::var_os(FOLDER) {
         Some(folder) => PathBuf::from(folder),
@@ -31,9 +30,9 @@ fn folder() -> PathBuf {
     }
 }
 
-fn refuse(name: &str, library: &Path) -> ! {
+fn refuse(library: &Path) -> ! {
     println!(
-        "cargo::error=the engine's library is not at {}: run `rt staticlib {name}` first, \
+        "cargo::error=the engine's library is not at {}: run bindings/build first, \
          or name its folder in {FOLDER} (as an absolute path)",
         library.display()
     );

@@ -1,4 +1,4 @@
-// What a host of the hall links: numbers and byte slices only. An answer is a number: that of a refusal, or one of `host::Answer`.
+// The calls of a host of the hall, which crates/doppelblock_c exports: numbers and byte slices only. An answer is a number: that of a refusal, or one of `host::Answer`.
 #![tactic(auto)]
 
 ghost use Rattle.std.specs.Prelude.{◌≡◌, length};
@@ -13,34 +13,21 @@ ghost use Rattle.host.specs.Number.{TableNumbered, sheet_number, count_out, solv
 use units::Unit;
 
 // 0 where both target slices hold the sums, else the number of the refusal.
-#[unsafe(no_mangle)]
-pub extern "C" fn doppelblock_target_sums(
-    size: usize,
-    cells: &[u8],
-    rows: &mut [u8],
-    columns: &mut [u8],
-) -> u8
+pub fn doppelblock_target_sums(size: usize, cells: &[u8], rows: &mut [u8], columns: &mut [u8]) -> u8
     ensures { (result, rows.new, columns.new) ≡ target_sums hall size cells.now rows.old columns.old }
 {
     host::target_sums(Unit::HALL, size, cells, rows, columns)
 }
 
 // WRONG or RIGHT, or the number of the refusal.
-#[unsafe(no_mangle)]
-pub extern "C" fn doppelblock_mark_sheet(
-    size: usize,
-    rows: &[u8],
-    columns: &[u8],
-    cells: &[u8],
-) -> u8
+pub fn doppelblock_mark_sheet(size: usize, rows: &[u8], columns: &[u8], cells: &[u8]) -> u8
     ensures { result ≡ sheet_number (mark_sheet hall (puzzle size rows.now columns.now) cells.now) }
 {
     host::mark_sheet(Unit::HALL, size, rows, columns, cells)
 }
 
 // 0 where the count is the smaller of the cap and the number of grids that keep the puzzle and the marks, else the number of the refusal.
-#[unsafe(no_mangle)]
-pub extern "C" fn doppelblock_count(
+pub fn doppelblock_count(
     size: usize,
     rows: &[u8],
     columns: &[u8],
@@ -55,8 +42,7 @@ pub extern "C" fn doppelblock_count(
 }
 
 // UNSOLVABLE, UNIQUE or MULTIPLE, or the number of the refusal. The cells hold one of the grids, if there is one.
-#[unsafe(no_mangle)]
-pub extern "C" fn doppelblock_solve(
+pub fn doppelblock_solve(
     size: usize,
     rows: &[u8],
     columns: &[u8],
@@ -71,8 +57,7 @@ pub extern "C" fn doppelblock_solve(
 }
 
 // WRITTEN where the table holds the candidates that remain, CONTRADICTED where a cell has none, or the number of the refusal.
-#[unsafe(no_mangle)]
-pub extern "C" fn doppelblock_candidates(
+pub fn doppelblock_candidates(
     size: usize,
     rows: &[u8],
     columns: &[u8],
@@ -86,16 +71,14 @@ pub extern "C" fn doppelblock_candidates(
 }
 
 // The greatest size of the unit.
-#[unsafe(no_mangle)]
-pub extern "C" fn doppelblock_size_limit() -> usize
+pub fn doppelblock_size_limit() -> usize
     ensures { result ≡ hall.greatest }
 {
     units::hall_size_limit()
 }
 
 // The greatest number of marks in a list, or the greatest number of all where the unit takes any list.
-#[unsafe(no_mangle)]
-pub extern "C" fn doppelblock_list_limit() -> usize
+pub fn doppelblock_list_limit() -> usize
     ensures { result ≡ list_limit hall }
 {
     units::hall_list_limit()

@@ -1,4 +1,4 @@
-// What a host of a classroom links: the calls of crates/doppelblock within the limits of the classrooms.
+// The calls of a host of a classroom, which crates/doppelblock_classroom_c exports: those of crates/doppelblock within the limits of the classrooms.
 #![tactic(auto)]
 
 ghost use Rattle.std.specs.Prelude.{◌≡◌, length};
@@ -13,8 +13,7 @@ ghost use Rattle.host.specs.Number.{TableNumbered, sheet_number, count_out, solv
 use units::Unit;
 
 // 0 where both target slices hold the sums, else the number of the refusal.
-#[unsafe(no_mangle)]
-pub extern "C" fn doppelblock_classroom_target_sums(
+pub fn doppelblock_classroom_target_sums(
     size: usize,
     cells: &[u8],
     rows: &mut [u8],
@@ -26,8 +25,7 @@ pub extern "C" fn doppelblock_classroom_target_sums(
 }
 
 // WRONG or RIGHT, or the number of the refusal.
-#[unsafe(no_mangle)]
-pub extern "C" fn doppelblock_classroom_mark_sheet(
+pub fn doppelblock_classroom_mark_sheet(
     size: usize,
     rows: &[u8],
     columns: &[u8],
@@ -39,8 +37,7 @@ pub extern "C" fn doppelblock_classroom_mark_sheet(
 }
 
 // 0 where the count is the smaller of the cap and the number of grids that keep the puzzle and the marks, else the number of the refusal.
-#[unsafe(no_mangle)]
-pub extern "C" fn doppelblock_classroom_count(
+pub fn doppelblock_classroom_count(
     size: usize,
     rows: &[u8],
     columns: &[u8],
@@ -55,8 +52,7 @@ pub extern "C" fn doppelblock_classroom_count(
 }
 
 // UNSOLVABLE, UNIQUE or MULTIPLE, or the number of the refusal. The cells hold one of the grids, if there is one.
-#[unsafe(no_mangle)]
-pub extern "C" fn doppelblock_classroom_solve(
+pub fn doppelblock_classroom_solve(
     size: usize,
     rows: &[u8],
     columns: &[u8],
@@ -72,8 +68,7 @@ pub extern "C" fn doppelblock_classroom_solve(
 }
 
 // WRITTEN where the table holds the candidates that remain, CONTRADICTED where a cell has none, or the number of the refusal.
-#[unsafe(no_mangle)]
-pub extern "C" fn doppelblock_classroom_candidates(
+pub fn doppelblock_classroom_candidates(
     size: usize,
     rows: &[u8],
     columns: &[u8],
@@ -87,16 +82,14 @@ pub extern "C" fn doppelblock_classroom_candidates(
 }
 
 // The greatest size of the unit.
-#[unsafe(no_mangle)]
-pub extern "C" fn doppelblock_classroom_size_limit() -> usize
+pub fn doppelblock_classroom_size_limit() -> usize
     ensures { result ≡ classroom.greatest }
 {
     units::classroom_size_limit()
 }
 
 // The greatest number of marks in a list, or the greatest number of all where the unit takes any list.
-#[unsafe(no_mangle)]
-pub extern "C" fn doppelblock_classroom_list_limit() -> usize
+pub fn doppelblock_classroom_list_limit() -> usize
     ensures { result ≡ list_limit classroom }
 {
     units::classroom_list_limit()

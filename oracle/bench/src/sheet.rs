@@ -24,7 +24,7 @@ const RUST_CALL: usize = 3;
 
 /// Prints a table for each of these sizes, or says why there is none.
 pub fn run(sizes: &[usize]) -> Result<(), String> {
-    let sheet = found(sheet_path(), "run `rt check sheet` first")?;
+    let sheet = found(sheet_path(), "run `rt run` in crates/sheet first")?;
     let driver = found(driver_path(), "build it in the profile of bench")?;
     for (size, rounds) in ROUNDS.into_iter().filter(|(size, _)| sizes.contains(size)) {
         let puzzles = timed(size);
@@ -54,7 +54,7 @@ pub fn run(sizes: &[usize]) -> Result<(), String> {
 const NO_LINES: &str = "sheet, no lines";
 
 fn sheet_path() -> PathBuf {
-    let built = || Path::new(env!("CARGO_MANIFEST_DIR")).join("../../target/bin/sheet");
+    let built = || Path::new(env!("CARGO_MANIFEST_DIR")).join("../../crates/sheet/out/sheet");
     env::var_os("DOPPELBLOCK_SHEET").map_or_else(built, PathBuf::from)
 }
 
