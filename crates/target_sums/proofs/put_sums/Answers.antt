@@ -6,7 +6,6 @@ use lib.ListN.{length, length-set}
 use lib.Seq.{take_all}
 use borrow.Author.Rules.{rules}
 use Rattle.tally.specs.Tally.{span}
-use Rattle.rules.specs.Grid.{line_sum}
 use Rattle.rules.specs.Strided.{each}
 use Rattle.target_sums.proofs.LineLaws.{fill_next}
 use Rattle.target_sums.proofs.put_sums.Goals as goal
