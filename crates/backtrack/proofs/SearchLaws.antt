@@ -11,7 +11,7 @@ use lib.ListN.{length}
 use borrow.Author.Tests.{eqb-true, eq-eqb}
 use Rattle.tally.proofs.TallyLaws.{and_left, and_right}
 use Rattle.rules.specs.Grid.{Puzzle}
-use Rattle.table.specs.Table.{left, fits}
+use Rattle.table.specs.Table.{left}
 use Rattle.table.specs.Reading.{open_cells, total}
 use Rattle.soundness.proofs.SameLaws.{same_left, within_trans, within_refl, within_fits}
 use Rattle.soundness.specs.SameGrids.{Within}

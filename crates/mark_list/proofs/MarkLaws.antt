@@ -21,15 +21,15 @@ use Rattle.mark_list.specs.Unpacked.{unpacked, word_at}
 
 -- ---- the list
 
-pub get_d_past : (l : List ℕ) (k d : ℕ) → length l ≤ k → get_or l k d ≡ d
-get_d_past [] k d h = refl
-get_d_past (x ∷ l) zero d h = absurd (omega arith)
-get_d_past (x ∷ l) (suc k) d h = get_d_past l k d (omega arith)
+pub get_or_past : (l : List ℕ) (k d : ℕ) → length l ≤ k → get_or l k d ≡ d
+get_or_past [] k d h = refl
+get_or_past (x ∷ l) zero d h = absurd (omega arith)
+get_or_past (x ∷ l) (suc k) d h = get_or_past l k d (omega arith)
 
-get_d_default : (l : List ℕ) (k d e : ℕ) → k < length l → get_or l k d ≡ get_or l k e
-get_d_default [] k d e h = absurd (not-suc-le-zero h)
-get_d_default (x ∷ l) zero d e h = refl
-get_d_default (x ∷ l) (suc k) d e h = get_d_default l k d e (omega arith)
+get_or_default : (l : List ℕ) (k d e : ℕ) → k < length l → get_or l k d ≡ get_or l k e
+get_or_default [] k d e h = absurd (not-suc-le-zero h)
+get_or_default (x ∷ l) zero d e h = refl
+get_or_default (x ∷ l) (suc k) d e h = get_or_default l k d e (omega arith)
 
 -- what is left of the marks from mark i on
 pub marks_next : (bs : List ℕ) (i : ℕ) → 2 * i < length bs → marks_of (drop (2 * i) bs) ≡ word_at bs i ∷ marks_of (drop (2 * (i + 1)) bs)
@@ -48,7 +48,7 @@ marks_next bs i h =
           let further : length bs ≤ 2 * (i + 1) = omega arith in
           let short = drop_of_length-le bs past in
           let gone = drop_of_length-le bs further in
-          let seven = get_d_past bs (2 * i + 1) 7 (omega arith) in
+          let seven = get_or_past bs (2 * i + 1) 7 (omega arith) in
           ap marks_of (first ∙ ap (λ (t : List ℕ). get_or bs (2 * i) 0 ∷ t) short) ∙ rw (gone, seven)
     ]
 
@@ -58,10 +58,10 @@ marks_end bs i h = rw (drop_of_length-le bs h)
 
 -- the word of a whole mark and of half a mark
 pub word_whole : (bs : List ℕ) (i : ℕ) → 2 * i + 1 < length bs → get_or bs (2 * i) 0 * 256 + get_or bs (2 * i + 1) 0 ≡ word_at bs i
-word_whole bs i h = ap (λ x. get_or bs (2 * i) 0 * 256 + x) (get_d_default bs (2 * i + 1) 0 7 h)
+word_whole bs i h = ap (λ x. get_or bs (2 * i) 0 * 256 + x) (get_or_default bs (2 * i + 1) 0 7 h)
 
 pub word_half : (bs : List ℕ) (i : ℕ) → length bs ≤ 2 * i + 1 → get_or bs (2 * i) 0 * 256 + 7 ≡ word_at bs i
-word_half bs i h = ap (λ x. get_or bs (2 * i) 0 * 256 + x) (sym (get_d_past bs (2 * i + 1) 7 h))
+word_half bs i h = ap (λ x. get_or bs (2 * i) 0 * 256 + x) (sym (get_or_past bs (2 * i + 1) 7 h))
 
 -- ---- the checks of one mark, as the code has its fields
 

@@ -8,7 +8,6 @@ use native.Mathlib.Omega.{arith}
 use borrow.Author.Tests.{eq-eqb}
 use Rattle.tally.proofs.TallyLaws.{test_ext}
 use Rattle.rules.specs.Grid.{Line, index, Puzzle, target}
-use Rattle.rules.specs.Mark.{has}
 use Rattle.table.specs.Closed.{arrangements}
 use Rattle.table.specs.Table.{Table, fits}
 use Rattle.table.specs.Steps.{taken}

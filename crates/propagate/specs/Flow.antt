@@ -2,7 +2,6 @@
 use Rattle.std.specs.Prelude.{ℕ, ◌≡◌, List}
 use Rattle.rules.specs.Grid.{Puzzle}
 use Rattle.soundness.specs.SameGrids.{SameGrids}
-use Rattle.soundness.proofs.Deductions as deductions
 use Rattle.queue_state.specs.Slab.{table_in}
 use Rattle.invariants.specs.State.{Kept}
 

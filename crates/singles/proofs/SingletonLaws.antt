@@ -9,7 +9,7 @@ use Rattle.rules.specs.Grid.{across, down, index}
 use Rattle.table.specs.Table.{in_column, in_row}
 use Rattle.queue_state.specs.Layout.{row_half_place, col_half_place}
 use Rattle.queue_state.specs.Ready.{Next}
-use Rattle.counters.specs.Counters.{halves, HalvesOf}
+use Rattle.counters.specs.Counters.{HalvesOf}
 use Rattle.counters.proofs.CounterLaws.{moved_wide, moved_both}
 use Rattle.counters.proofs.Families.{half_moved}
 use Rattle.singles.proofs.ReasonLaws.{steps_both}

@@ -1,7 +1,6 @@
 -- `arcs::drop_inner` meets its contract. Assumes nothing.
 use mathlib.Core.Path.{refl}
 use native.Mathlib.Omega.{arith}
-use Rattle.words.specs.Word.{from_of}
 use Rattle.arcs.proofs.WalkLaws.{placed_small, walking_start, walking_ask, walking_next, walking_less, walking_end}
 use Rattle.arcs.proofs.drop_inner.Goals as goal
 

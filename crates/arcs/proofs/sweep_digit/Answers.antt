@@ -44,13 +44,12 @@ bounds-st-cell c =
     omega (arith, sweep_small c.requires.0, sweep_bounds c.requires.0 c.loop-i.invariant.0)
 
 pub loop-i-preserved-then-keeps : goal.loop-i-preserved-then-keeps
-loop-i-preserved-then-keeps c =
-    (
-      digit_keep c.requires.0 c.loop-i.invariant.0 c.loop-i-test.true _ _ _ _ _ c.requires.1
-          c.word_at-w.ensures c.digit_test-test.ensures refl c.keeps.ensures
-          (c.shared_slice_known-1.given _).fits (c.slice_known-in-loop-i-1.given _).fits c.if-keeps.true,
-      c.loop-i.invariant.1,
-    )
+loop-i-preserved-then-keeps c = (
+  digit_keep c.requires.0 c.loop-i.invariant.0 c.loop-i-test.true _ _ _ _ _ c.requires.1
+      c.word_at-w.ensures c.digit_test-test.ensures refl c.keeps.ensures
+      (c.shared_slice_known-1.given _).fits (c.slice_known-in-loop-i-1.given _).fits c.if-keeps.true,
+  c.loop-i.invariant.1,
+)
 
 pub bounds-st-972 : goal.bounds-st-972
 bounds-st-972 c =
@@ -70,13 +69,12 @@ having_since-have-requires c =
     c.keeps.ensures c.loop-i.invariant.1 c.remove.ensures
 
 pub loop-i-preserved : goal.loop-i-preserved
-loop-i-preserved c =
-    (
-      digit_drop c.requires.0 c.loop-i.invariant.0 c.loop-i-test.true _ _ _ _ _ c.requires.1
-          c.word_at-w.ensures c.digit_test-test.ensures refl c.keeps.ensures _ refl
-          c.if-keeps.false c.loop-i.invariant.1 c.remove.ensures,
-      c.having_since-have.ensures,
-    )
+loop-i-preserved c = (
+  digit_drop c.requires.0 c.loop-i.invariant.0 c.loop-i-test.true _ _ _ _ _ c.requires.1
+      c.word_at-w.ensures c.digit_test-test.ensures refl c.keeps.ensures _ refl
+      c.if-keeps.false c.loop-i.invariant.1 c.remove.ensures,
+  c.having_since-have.ensures,
+)
 
 pub shape_of-st : goal.shape_of-st
 shape_of-st c = c.loop-i.invariant.0.within.grown.size
