@@ -3,8 +3,9 @@
 // nothing else is written.
 #![tactic(auto)]
 
-ghost use Rattle.std.specs.Prelude.{◌≡◌, ◌≢◌, ◌≤◌, length, OnOk, OnErr};
+ghost use Rattle.std.specs.Prelude.{◌≡◌, ◌≢◌, ◌≤◌, length, OnOk, OnErr, IfErr};
 ghost use Rattle.std.specs.Io.{WritesAtMost};
+ghost use Rattle.std.specs.IoError.{error_kind};
 ghost use Rattle.std.specs.Io.KnownBytes.{Appends, WriteAppends};
 ghost use Rattle.text_stream.specs.Stream.{KeptFits};
 ghost use Rattle.sheet.specs.Run.{StartsOut, BlockAnswered, LinesAnswered, AllAnswered, PartAnswered};
@@ -49,6 +50,7 @@ struct Turn {
 fn write_some<W: Write>(writer: &mut W, bytes: &[u8]) -> io::Result<usize>
     ensures within { WritesAtMost result bytes.now }
     ensures bytes { WriteAppends (W.contents writer.old) (W.contents writer.new) result bytes.now }
+    ensures again { IfErr result (λ e. error_kind e ≢ ErrorKind.Interrupted) }
 {
     match writer.write(bytes) {
         Ok(0) => Err(io::Error::from(ErrorKind::WriteZero)),
@@ -67,6 +69,7 @@ fn write_some<W: Write>(writer: &mut W, bytes: &[u8]) -> io::Result<usize>
 fn write_out<W: Write>(writer: &mut W, bytes: &[u8]) -> io::Result<()>
     ensures all { OnOk result (Appends (W.contents writer.old) (W.contents writer.new) bytes.now) }
     ensures cut { OnErr result (StartsOut (W.contents writer.old) (W.contents writer.new) bytes.now) }
+    ensures again { IfErr result (λ e. error_kind e ≢ ErrorKind.Interrupted) }
 {
     let mut done = 0;
     for _ in 0..u64::MAX {
@@ -80,7 +83,9 @@ fn write_out<W: Write>(writer: &mut W, bytes: &[u8]) -> io::Result<()>
 
 // Where a read failed: one that a signal interrupted is made again.
 fn after_failed_read(e: io::Error) -> Next
-    ensures { result ≢ Next.End }
+    ensures no_end { result ≢ Next.End }
+    ensures again { error_kind e ≡ ErrorKind.Interrupted → result ≡ Next.Read }
+    ensures stops { error_kind e ≢ ErrorKind.Interrupted → result ≡ Next.Stop (Failure.Read e) }
 {
     if e.kind() == ErrorKind::Interrupted {
         Next::Read

@@ -5,7 +5,7 @@ use Rattle.sheet.proofs.answer_block.Goals as goal
 
 pub returns-in-Err-clause-answers : goal.returns-in-Err-clause-answers
 returns-in-Err-clause-answers g c =
-    block_of_none _ _ _ _ _ (Consumes-kept _ _ _ [] (Consumes-nil _) c.in-Err.ensures.bytes) (end_not_met _ _ c.after_failed_read.ensures)
+    block_of_none _ _ _ _ _ (Consumes-kept _ _ _ [] (Consumes-nil _) c.in-Err.ensures.bytes) (end_not_met _ _ c.after_failed_read.ensures.no_end)
 
 pub returns-then-n-eq0-clause-answers : goal.returns-then-n-eq0-clause-answers
 returns-then-n-eq0-clause-answers g c =
