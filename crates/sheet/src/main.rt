@@ -11,7 +11,6 @@ ghost use Rattle.text_stream.specs.Stream.{KeptFits};
 ghost use Rattle.sheet.specs.Run.{StartsOut, BlockAnswered, LinesAnswered, AllAnswered, PartAnswered};
 
 use std::io::{ErrorKind, Read, Write};
-use std::process::ExitCode;
 use std::{fmt, io};
 use text_stream::Stream;
 
@@ -189,13 +188,10 @@ fn room() -> [u8; 413696]
     [0; 413696]
 }
 
-fn main(rt: HostRuntime) -> ExitCode {
+fn main(rt: HostRuntime) {
     let mut out = room();
-    match run(&mut rt.stdin(), &mut rt.stdout(), &mut out) {
-        Ok(()) => ExitCode::SUCCESS,
-        Err(failure) => {
-            let _ = rt.eprintln(failure);
-            ExitCode::FAILURE
-        }
+    if let Err(failure) = run(&mut rt.stdin(), &mut rt.stdout(), &mut out) {
+        // Where this write fails too, nothing is left to tell it by.
+        let _ = rt.eprintln(failure);
     }
 }
