@@ -8,7 +8,7 @@ use lib.ListN.{length}
 use Rattle.rules.proofs.CheckLaws.{refusal_skip, refusal_stop, refusal_none, refusal_none_left, refusal_none_right}
 use Rattle.units.specs.declared.Unit.{Unit}
 use Rattle.units.specs.Limits.{takes_list}
-use Rattle.rules.specs.Grid.{Puzzle, puzzle}
+use Rattle.rules.specs.Grid.{Puzzle}
 use Rattle.rules.specs.Check.{refusal, puzzle_checks, count_checks}
 use Rattle.rules.specs.CheckParts.{mark_checks, list_checks}
 use Rattle.rules.specs.Number.{number, capped}

@@ -14,10 +14,14 @@ use Rattle.tally.proofs.TallyLaws.{and_left, and_right}
 use Rattle.record_fields.specs.Fields.{field_start, slice, field, tag, field_count, record_length, readable, number_from}
 
 -- What a copy into a longer list begins with.
-pub copied : (src new rest : List ℕ) → new ≡ src → length src ≤ length rest →
-    (length (new ++ drop (length src) rest) ≡ length rest) × (take (length src) (new ++ drop (length src) rest) ≡ src)
-copied src new rest e h =
-    rw e (simp (length-append, length-drop) (omega arith), take-append_seam src (drop (length src) rest))
+pub copied : (src dst out : List ℕ) → out ≡ take (length src) src ++ drop (length src) dst → take (length src) out ≡ src
+copied src dst out e = rw (e, take-length src) (take-append_seam src (drop (length src) dst))
+
+-- A list copied to the front of a longer one: as long as before, and the list stands at its front.
+pub front_copied : (src new dst : List ℕ) → new ≡ src → length src ≤ length dst →
+    (length (new ++ drop (length src) dst) ≡ length dst) × (take (length src) (new ++ drop (length src) dst) ≡ src)
+front_copied src new dst e h =
+    (rw e (simp (length-append, length-drop) (omega arith)), copied src dst (new ++ drop (length src) dst) (rw (e, take-length src)))
 
 module _ (xs : List ℕ) where
   -- The next field begins where a field ends.
