@@ -1,4 +1,5 @@
-// The calls of a host of the hall, which crates/doppelblock_c exports: numbers and byte slices only. An answer is a number: that of a refusal, or one of `host::Answer`.
+// The calls of a host of the hall, which crates/doppelblock_c exports: numbers and byte slices only. An answer is a number: that of a refusal, or one of
+// `host::Answer`.
 #![tactic(auto)]
 
 ghost use Rattle.std.specs.Prelude.{◌≡◌, length};

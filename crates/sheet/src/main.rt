@@ -10,6 +10,7 @@ ghost use Rattle.std.specs.Io.KnownBytes.{Appends, WriteAppends};
 ghost use Rattle.text_stream.specs.Stream.{KeptFits};
 ghost use Rattle.sheet.specs.Run.{StartsOut, BlockAnswered, LinesAnswered, AllAnswered, PartAnswered};
 
+use std::fmt::Write as _;
 use std::io::{ErrorKind, Read, Write};
 use std::{fmt, io};
 use text_stream::Stream;
@@ -21,11 +22,40 @@ pub enum Failure {
     Write(io::Error),
 }
 
+// The text of an error on its way to a writer, which ends where std adds the system's number.
+#[derive(Drop)]
+struct Reason<'a, W> {
+    writer: &'a mut W,
+    ended: bool,
+}
+
+impl<'a, W: fmt::Write> fmt::Write for Reason<'a, W> {
+    fn write_str(&mut self, s: &str) -> fmt::Result {
+        if s == " (os error " {
+            self.ended = true;
+        }
+        if self.ended {
+            return Ok(());
+        }
+        self.writer.write_str(s)
+    }
+}
+
+// What failed, and the system's reason.
+fn write_reason<W: fmt::Write>(writer: &mut W, what: &str, e: io::Error) -> fmt::Result {
+    writer.write_str(what)?;
+    let mut reason = Reason {
+        writer,
+        ended: false,
+    };
+    reason.write(e)
+}
+
 impl fmt::Display for Failure {
     fn fmt<W: fmt::Write>(&self, f: &mut fmt::Formatter<W>) -> fmt::Result {
         match self {
-            Failure::Read(e) => write!(f, "sheet: cannot read standard input: {e}"),
-            Failure::Write(e) => write!(f, "sheet: cannot write to standard output: {e}"),
+            Failure::Read(e) => write_reason(f, "sheet: cannot read standard input: ", *e),
+            Failure::Write(e) => write_reason(f, "sheet: cannot write to standard output: ", *e),
         }
     }
 }
