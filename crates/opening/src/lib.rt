@@ -12,6 +12,7 @@ use queue_state::{Slab, clear_mask};
 use value::Value;
 
 // The values that no live arrangement of a line has at place p, as a mask.
+#[tactic(auto, using(crate::proofs::SeedLaws::lacks_more, crate::proofs::SeedLaws::lacks_same))]
 fn unsupported(st: &[u16], line: usize, p: usize) -> u16
     requires { (length st.now ≡ slab_size) × (line < 18) × (p < 9) }
     ensures { Lacks st.now (line * 9 + p) 12 result }
