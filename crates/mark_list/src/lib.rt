@@ -100,7 +100,6 @@ fn marks_refusal(n: usize, bytes: &[u8]) -> u8
 }
 
 // The number that a list of marks is refused by in a unit, or 0: its length is asked before any mark.
-#[tactic(auto, using(crate::proofs::MarkLaws::list_19, crate::proofs::MarkLaws::list_marks))]
 pub fn list_refusal(unit: Unit, n: usize, bytes: &[u8]) -> u8
     requires { Size n }
     ensures { result ≡ refusal (list_checks unit n (marks_of bytes.now)) }
