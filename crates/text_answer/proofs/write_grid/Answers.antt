@@ -14,16 +14,8 @@ overflow_mul-start c = omega (arith, row_within c.requires c.loop-r-test.true)
 pub overflow_add-end : goal.overflow_add-end
 overflow_add-end c = omega (arith, row_within c.requires c.loop-r-test.true)
 
--- NO GOAL slice-bounds-write-row-end
--- part-write-row-end : tie.Need-slice-bounds-write-row-end invariant-loop decreases-loop
--- part-write-row-end c = (row_within c.before.before.before.before.requires c.loop-test.true).0
-
 pub slice_bounds-write_row-count-in-loop-r : goal.slice_bounds-write_row-count-in-loop-r
 slice_bounds-write_row-count-in-loop-r c = omega (arith, c.loop-r.invariant.put)
-
--- NO GOAL slice-bounds-write-row-start-2
--- part-write-row-start-2 : tie.Need-slice-bounds-write-row-start-2 invariant-loop decreases-loop
--- part-write-row-start-2 c = sub-write-row-2 c
 
 pub write_row-k-requires : goal.write_row-k-requires
 write_row-k-requires c = row_ask c.requires c.loop-r.invariant c.loop-r-test.true

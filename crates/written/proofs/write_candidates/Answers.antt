@@ -23,10 +23,6 @@ pub slice_bounds-write_row-count : goal.slice_bounds-write_row-count
 slice_bounds-write_row-count c =
     omega (arith, row_room c.args.n c.loop-r.r c.loop-r-test.true, c.loop-r.invariant.1.size)
 
--- NO GOAL slice-bounds-write-row-start
--- part-write-row-start : tie.Need-slice-bounds-write-row-start invariant-loop decreases-loop
--- part-write-row-start c = sub-write-row c
-
 pub write_row-requires : goal.write_row-requires
 write_row-requires c =
     let h = c.loop-r-test.true in

@@ -18,10 +18,6 @@ pub slice_bounds-write_grid_row-count : goal.slice_bounds-write_grid_row-count
 slice_bounds-write_grid_row-count c =
     omega (arith, row_room c.args.n c.loop-r.r c.loop-r-test.true, c.loop-r.invariant.1.size)
 
--- NO GOAL slice-bounds-write-grid-row-start
--- part-write-grid-row-start : tie.Need-slice-bounds-write-grid-row-start invariant-loop decreases-loop
--- part-write-grid-row-start c = sub-write-grid-row c
-
 pub write_grid_row-requires : goal.write_grid_row-requires
 write_grid_row-requires c =
     let h = c.loop-r-test.true in
