@@ -10,12 +10,15 @@ use lib.ListN.{length, get_or, drop, drop_of_length-le}
 use lib.Seq.{drop-cons}
 use borrow.Author.Tests.{eq-eqb, ne_eqb, lt-ltb, le-ltb}
 use Rattle.tally.specs.Tally.{join}
+use Rattle.std.specs.Prelude.{⊤, Result, Ok, Err}
+use Rattle.refusal.specs.declared.Refusal.{Refusal}
+use Rattle.refusal.specs.declared.Refusal.TheVariants.{MarkSpare, MarkPlace, MarkValue, ListLimit}
 use Rattle.units.specs.declared.Unit.{Unit}
 use Rattle.units.specs.Limits.{takes_list}
 use Rattle.rules.specs.Mark.{mark_row, mark_column, mark_value, marks_of}
-use Rattle.rules.specs.Check.{refusal, named, check_mark}
+use Rattle.rules.specs.Check.{checked, named, check_mark}
 use Rattle.rules.specs.CheckParts.{mark_checks, list_checks}
-use Rattle.rules.proofs.CheckLaws.{lacks, numbered, refusal_skip, refusal_stop}
+use Rattle.rules.proofs.CheckLaws.{checked_skip, checked_stop}
 use Rattle.mark_list.specs.declared.Mark.{Mark}
 use Rattle.mark_list.specs.Unpacked.{unpacked, word_at}
 
@@ -75,51 +78,47 @@ module _ (n w : ℕ) (m : Mark) (u : m ≡ unpacked w) where
   value_is : m.value ≡ mark_value w
   value_is = ap (λ (x : Mark). x.value) u
 
-  pub mark_5_row : w % 8 ≡ 0 → n ≤ m.row → 5 ≡ refusal (check_mark n w)
-  unfolding refusal
+  pub mark_5_row : w % 8 ≡ 0 → n ≤ m.row → Err MarkPlace ≡ checked (check_mark n w)
+  unfolding checked
   mark_5_row h r = rw (eq-eqb (w % 8) 0 h, le-ltb (mark_row w) n (omega (arith, row_is)))
 
-  pub mark_5_column : w % 8 ≡ 0 → m.row < n → n ≤ m.column → 5 ≡ refusal (check_mark n w)
-  unfolding refusal
+  pub mark_5_column : w % 8 ≡ 0 → m.row < n → n ≤ m.column → Err MarkPlace ≡ checked (check_mark n w)
+  unfolding checked
   mark_5_column h r c = rw (eq-eqb (w % 8) 0 h, lt-ltb (mark_row w) n (omega (arith, row_is)), le-ltb (mark_column w) n (omega (arith, column_is)))
 
   module _ (h : w % 8 ≡ 0) (r : m.row < n) (c : m.column < n) (b : Bool) (e : b ≡ named n m.value) where
-    last : refusal (check_mark n w) ≡ cond b 0 6
-    unfolding refusal
+    last : checked (check_mark n w) ≡ cond b (Ok tt) (Err MarkValue)
+    unfolding checked
     last = rw (eq-eqb (w % 8) 0 h, lt-ltb (mark_row w) n (omega (arith, row_is)), lt-ltb (mark_column w) n (omega (arith, column_is)), ← value_is, ← e)
 
-    pub mark_0 : b ≡ true → 0 ≡ refusal (check_mark n w)
+    pub mark_0 : b ≡ true → Ok tt ≡ checked (check_mark n w)
     mark_0 t = sym (last ∙ rw t)
 
-    pub mark_6 : b ≡ false → 6 ≡ refusal (check_mark n w)
+    pub mark_6 : b ≡ false → Err MarkValue ≡ checked (check_mark n w)
     mark_6 t = sym (last ∙ rw t)
 
-pub mark_4 : (n w : ℕ) → (w % 8 ≡ 0 → ⊥) → 4 ≡ refusal (check_mark n w)
-unfolding refusal
+pub mark_4 : (n w : ℕ) → (w % 8 ≡ 0 → ⊥) → Err MarkSpare ≡ checked (check_mark n w)
+unfolding checked
 mark_4 n w h = rw (ne_eqb (w % 8) 0 h)
-
-pub mark_numbered : (n m : ℕ) → numbered (check_mark n m) ≡ true
-unfolding lacks
-mark_numbered n m = refl
 
 -- ---- the checks of a list
 
-module _ (n : ℕ) (bs : List ℕ) (i k : ℕ) (d : k ≡ refusal (check_mark n (word_at bs i))) where
-  abbrev ahead : ℕ → ℕ
-  ahead j = refusal (mark_checks n (marks_of (drop (2 * j) bs)))
+module _ (n : ℕ) (bs : List ℕ) (i : ℕ) where
+  abbrev ahead : ℕ → Result ⊤ Refusal
+  ahead j = checked (mark_checks n (marks_of (drop (2 * j) bs)))
 
-  split : 2 * i < length bs → ahead i ≡ refusal (check_mark n (word_at bs i) ++ mark_checks n (marks_of (drop (2 * (i + 1)) bs)))
+  split : 2 * i < length bs → ahead i ≡ checked (check_mark n (word_at bs i) ++ mark_checks n (marks_of (drop (2 * (i + 1)) bs)))
   unfolding join
   split h = rw (marks_next bs i h)
 
-  pub list_stop : 2 * i < length bs → (k ≡ 0 → ⊥) → ahead i ≡ k
-  list_stop h z = split h ∙ refusal_stop (check_mark n (word_at bs i)) _ (λ e. z (d ∙ e)) ∙ sym d
+  pub list_stop : 2 * i < length bs → (k : Refusal) → Err k ≡ checked (check_mark n (word_at bs i)) → ahead i ≡ Err k
+  list_stop h k e = split h ∙ checked_stop (check_mark n (word_at bs i)) _ k (sym e)
 
-  pub list_skip : 2 * i < length bs → k ≡ 0 → ahead i ≡ ahead (i + 1)
-  list_skip h z = split h ∙ refusal_skip (check_mark n (word_at bs i)) _ (mark_numbered n (word_at bs i)) (sym d ∙ z)
+  pub list_skip : 2 * i < length bs → Ok tt ≡ checked (check_mark n (word_at bs i)) → ahead i ≡ ahead (i + 1)
+  list_skip h e = split h ∙ checked_skip (check_mark n (word_at bs i)) _ (sym e)
 
-pub list_end : (n : ℕ) (bs : List ℕ) (i : ℕ) → length bs ≤ 2 * i → refusal (mark_checks n (marks_of (drop (2 * i) bs))) ≡ 0
-unfolding join refusal
+pub list_end : (n : ℕ) (bs : List ℕ) (i : ℕ) → length bs ≤ 2 * i → checked (mark_checks n (marks_of (drop (2 * i) bs))) ≡ Ok tt
+unfolding join checked
 list_end n bs i h = rw (marks_end bs i h)
 
 -- ---- the length of a list
@@ -133,10 +132,10 @@ marks_length (x ∷ (y ∷ bs)) zero a b = absurd (omega arith)
 marks_length (x ∷ (y ∷ bs)) (suc count) a b = let e = marks_length bs count (omega arith) (omega arith) in omega arith
 
 module _ (u : Unit) (n : ℕ) (bs : List ℕ) (count : ℕ) (a : length bs ≤ 2 * count) (b : 2 * count ≤ length bs + 1) where
-  pub list_19 : takes_list u count ≡ false → 19 ≡ refusal (list_checks u n (marks_of bs))
-  unfolding refusal
+  pub list_19 : takes_list u count ≡ false → Err ListLimit ≡ checked (list_checks u n (marks_of bs))
+  unfolding checked
   list_19 t = rw (marks_length bs count a b, t)
 
-  pub list_marks : (k : ℕ) → k ≡ refusal (mark_checks n (marks_of bs)) → takes_list u count ≡ true → k ≡ refusal (list_checks u n (marks_of bs))
-  unfolding refusal
-  list_marks k d t = rw (marks_length bs count a b, t) d
+  pub list_marks : (r : Result ⊤ Refusal) → r ≡ checked (mark_checks n (marks_of bs)) → takes_list u count ≡ true → r ≡ checked (list_checks u n (marks_of bs))
+  unfolding checked
+  list_marks r d t = rw (marks_length bs count a b, t) d

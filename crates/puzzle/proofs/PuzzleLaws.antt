@@ -8,12 +8,14 @@ use lib.ListN.{length}
 use borrow.Author.Tests.{eqb-true}
 use Rattle.tally.specs.Tally.{all}
 use Rattle.tally.proofs.TallyLaws.{and_left, and_right}
+use Rattle.std.specs.Prelude.{Ok, Err}
+use Rattle.refusal.specs.declared.Refusal.TheVariants.{Size as SizeFault, TargetLengths, Target, SizeLimit}
 use Rattle.units.specs.declared.Unit.{Unit}
 use Rattle.units.specs.Limits.{takes_size}
 use Rattle.rules.specs.Grid.{Puzzle, puzzle}
-use Rattle.rules.specs.Check.{refusal, max_target, puzzle_checks}
+use Rattle.rules.specs.Check.{checked, refusal, max_target, puzzle_checks}
 use Rattle.rules.specs.CheckParts.{size_fits, targets_fit}
-use Rattle.rules.proofs.CheckLaws.{lacks, numbered, refusal_none}
+use Rattle.rules.proofs.CheckLaws.{lacks, numbered, passed_number, refusal_none}
 use Rattle.rules.proofs.SizeLaws.{size_in}
 use Rattle.rules.specs.Size.{Size}
 use Rattle.puzzle.specs.Accepted.{AcceptedPuzzle}
@@ -22,30 +24,30 @@ module _ (u : Unit) (p : Puzzle) where
   abbrev fitting : Bool
   fitting = targets_fit p.size (length p.rows) (length p.columns)
 
-  pub puzzle_1 : size_fits p.size ≡ false → 1 ≡ refusal (puzzle_checks u p)
-  unfolding refusal
+  pub puzzle_1 : size_fits p.size ≡ false → Err SizeFault ≡ checked (puzzle_checks u p)
+  unfolding checked
   puzzle_1 h = rw h
 
-  pub puzzle_18 : size_fits p.size ≡ true → takes_size u p.size ≡ false → 18 ≡ refusal (puzzle_checks u p)
-  unfolding refusal
+  pub puzzle_18 : size_fits p.size ≡ true → takes_size u p.size ≡ false → Err SizeLimit ≡ checked (puzzle_checks u p)
+  unfolding checked
   puzzle_18 h s = rw (h, s)
 
-  pub puzzle_2 : size_fits p.size ≡ true → takes_size u p.size ≡ true → fitting ≡ false → 2 ≡ refusal (puzzle_checks u p)
-  unfolding refusal
+  pub puzzle_2 : size_fits p.size ≡ true → takes_size u p.size ≡ true → fitting ≡ false → Err TargetLengths ≡ checked (puzzle_checks u p)
+  unfolding checked
   puzzle_2 h s t = rw (h, s, t)
 
   -- the greatest target, as the code has it
   module _ (h : size_fits p.size ≡ true) (s : takes_size u p.size ≡ true) (t : fitting ≡ true) (m : ℕ) (e : m ≡ max_target p.size) where
-    pub puzzle_3_rows : all (λ t. leb t m) p.rows ≡ false → 3 ≡ refusal (puzzle_checks u p)
-    unfolding refusal
+    pub puzzle_3_rows : all (λ t. leb t m) p.rows ≡ false → Err Target ≡ checked (puzzle_checks u p)
+    unfolding checked
     puzzle_3_rows r = rw (h, s, t, ← e, r)
 
-    pub puzzle_3_columns : all (λ t. leb t m) p.rows ≡ true → all (λ t. leb t m) p.columns ≡ false → 3 ≡ refusal (puzzle_checks u p)
-    unfolding refusal
+    pub puzzle_3_columns : all (λ t. leb t m) p.rows ≡ true → all (λ t. leb t m) p.columns ≡ false → Err Target ≡ checked (puzzle_checks u p)
+    unfolding checked
     puzzle_3_columns r c = rw (h, s, t, ← e, r, c)
 
-    pub puzzle_0 : all (λ t. leb t m) p.rows ≡ true → all (λ t. leb t m) p.columns ≡ true → 0 ≡ refusal (puzzle_checks u p)
-    unfolding refusal
+    pub puzzle_0 : all (λ t. leb t m) p.rows ≡ true → all (λ t. leb t m) p.columns ≡ true → Ok tt ≡ checked (puzzle_checks u p)
+    unfolding checked
     puzzle_0 r c = rw (h, s, t, ← e, r, c)
 
 pub puzzle_numbered : (u : Unit) (p : Puzzle) → numbered (puzzle_checks u p) ≡ true
@@ -58,9 +60,9 @@ accepted u p e =
     let n = p.size in
     let r = length p.rows in
     let c = length p.columns in
-    let a = refusal_none 0 (size_fits n) _ e in
-    let b = refusal_none 1 (targets_fit n r c) _ (refusal_none 17 (takes_size u n) _ a.1).1 in
-    let d = refusal_none 2 _ _ b.1 in
+    let a = refusal_none SizeFault (size_fits n) _ e in
+    let b = refusal_none TargetLengths (targets_fit n r c) _ (refusal_none SizeLimit (takes_size u n) _ a.1).1 in
+    let d = refusal_none Target _ _ b.1 in
     record {
       size = size_in n a.0;
       rows_long = eqb-true r n (and_left (eqb r n) (eqb c n) b.0);
@@ -69,6 +71,6 @@ accepted u p e =
       columns_within = and_right (all (λ t. leb t (max_target n)) p.rows) _ d.0;
     }
 
--- its size, from the number that a call found
-pub passed_size : (u : Unit) (n : ℕ) (rows columns : List ℕ) (k : ℕ) → k ≡ refusal (puzzle_checks u (puzzle n rows columns)) → k ≡ 0 → Size n
-passed_size u n rows columns k d z = (accepted u (puzzle n rows columns) (sym d ∙ z)).size
+-- its size
+pub passed_size : (u : Unit) (n : ℕ) (rows columns : List ℕ) → checked (puzzle_checks u (puzzle n rows columns)) ≡ Ok tt → Size n
+passed_size u n rows columns e = (accepted u (puzzle n rows columns) (passed_number _ e)).size

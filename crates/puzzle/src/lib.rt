@@ -3,29 +3,24 @@
 
 ghost use Rattle.std.specs.Prelude.{◌≡◌, leb};
 ghost use Rattle.tally.specs.Tally.{all};
-ghost use Rattle.rules.specs.Check.{refusal, max_target, puzzle_checks};
+ghost use Rattle.rules.specs.Check.{checked, max_target, puzzle_checks};
 ghost use Rattle.rules.specs.CheckParts.{size_fits, targets_fit};
 ghost use Rattle.rules.specs.Size.{Size};
 ghost use Rattle.rules.specs.Grid.{puzzle};
 
+use refusal::Refusal;
 use units::Unit;
-
-pub fn wide(c: u8) -> usize
-    ensures { result ≡ c }
-{
-    c as usize
-}
 
 pub fn size_fits(n: usize) -> bool
     ensures { result ≡ size_fits n }
 {
-    if n < 2 { false } else { n <= 9 }
+    2 <= n && n <= 9
 }
 
 pub fn targets_fit(n: usize, rows: usize, columns: usize) -> bool
     ensures { result ≡ targets_fit n rows columns }
 {
-    if rows == n { columns == n } else { false }
+    rows == n && columns == n
 }
 
 pub fn max_target(n: usize) -> usize
@@ -38,36 +33,28 @@ pub fn max_target(n: usize) -> usize
 fn all_within(limit: usize, targets: &[u8]) -> bool
     ensures { result ≡ all (λ t. leb t limit) targets.now }
 {
-    let mut i = 0;
-    while i < targets.len() {
-        let t = wide(targets[i]);
-        if limit < t {
-            return false;
-        }
-        i += 1;
-    }
-    true
+    targets.iter().all(|t| usize::from(*t) <= limit)
 }
 
-// The number that a puzzle is refused by in a unit, or 0.
-pub fn puzzle_refusal(unit: Unit, n: usize, rows: &[u8], columns: &[u8]) -> u8
-    ensures { result ≡ refusal (puzzle_checks unit (puzzle n rows.now columns.now)) }
+// The checks of a puzzle in a unit.
+pub fn check_puzzle(unit: Unit, n: usize, rows: &[u8], columns: &[u8]) -> Result<(), Refusal>
+    ensures { result ≡ checked (puzzle_checks unit (puzzle n rows.now columns.now)) }
 {
     if !size_fits(n) {
-        return 1;
+        return Err(Refusal::Size);
     }
     if !unit.takes_size(n) {
-        return 18;
+        return Err(Refusal::SizeLimit);
     }
     if !targets_fit(n, rows.len(), columns.len()) {
-        return 2;
+        return Err(Refusal::TargetLengths);
     }
     let limit = max_target(n);
     if !all_within(limit, rows) {
-        return 3;
+        return Err(Refusal::Target);
     }
     if !all_within(limit, columns) {
-        return 3;
+        return Err(Refusal::Target);
     }
-    0
+    Ok(())
 }

@@ -9,43 +9,89 @@ use native.Mathlib.Omega.{arith}
 use native.Mathlib.Decide.{ℕ_discrete}
 use Rattle.tally.specs.Tally.{join, span}
 use Rattle.tally.proofs.TallyLaws.{and_left, and_right, and_both}
-use Rattle.rules.specs.Check.{Check, check, refusal}
+use Rattle.std.specs.Prelude.{⊤, Result, Ok, Err}
+use Rattle.refusal.specs.declared.Refusal.{Refusal}
+use Rattle.refusal.specs.declared.Refusal.TheVariants.{Size, TargetLengths, Target, MarkSpare, MarkPlace, MarkValue, CellsLength, Blacks, EmptyCell, Sum, TextLine, SizeLimit, ListLimit}
+use Rattle.refusal.specs.Number.{refusal_number, number_of}
+use Rattle.rules.specs.Check.{Check, check, checked, refusal}
 
 -- no check has the number k
 unfoldable pub lacks : ℕ → List Check → Bool
 lacks k [] = true
-lacks k (check j b ∷ qs) = not (eqb j k) && lacks k qs
+lacks k (check j b ∷ qs) = not (eqb (refusal_number j) k) && lacks k qs
 
 -- no check has the number 0, which says that nothing is refused
 abbrev pub numbered : List Check → Bool
 numbered qs = lacks 0 qs
 
+-- every refusal has a number
+pub number_positive : (k : Refusal) → refusal_number k ≡ 0 → ⊥
+number_positive Size e = omega arith
+number_positive TargetLengths e = omega arith
+number_positive Target e = omega arith
+number_positive MarkSpare e = omega arith
+number_positive MarkPlace e = omega arith
+number_positive MarkValue e = omega arith
+number_positive CellsLength e = omega arith
+number_positive Blacks e = omega arith
+number_positive EmptyCell e = omega arith
+number_positive Sum e = omega arith
+number_positive TextLine e = omega arith
+number_positive SizeLimit e = omega arith
+number_positive ListLimit e = omega arith
+
+-- nothing is refused exactly where the number is 0
+pub passed_number : (qs : List Check) → checked qs ≡ Ok tt → refusal qs ≡ 0
+unfolding refusal
+passed_number qs e = ap number_of e
+
+passed_answer : (r : Result ⊤ Refusal) → number_of r ≡ 0 → r ≡ Ok tt
+passed_answer (Ok tt) e = refl
+passed_answer (Err k) e = absurd (number_positive k e)
+
+pub passed_checks : (qs : List Check) → refusal qs ≡ 0 → checked qs ≡ Ok tt
+unfolding refusal
+passed_checks qs e = passed_answer (checked qs) e
+
 -- their refusal is another number
 pub refusal_lacks : (k : ℕ) (a : List Check) → lacks k a ≡ true → (k ≡ 0 → ⊥) → refusal a ≡ k → ⊥
-unfolding refusal lacks
+unfolding refusal checked lacks
 refusal_lacks k [] h z e = z (sym e)
-refusal_lacks k (check j true ∷ qs) h z e = refusal_lacks k qs (and_right (not (eqb j k)) (lacks k qs) h) z e
+refusal_lacks k (check j true ∷ qs) h z e = refusal_lacks k qs (and_right (not (eqb (refusal_number j) k)) (lacks k qs) h) z e
 refusal_lacks k (check j false ∷ qs) h z e =
-    true≢false (sym (and_left (not (eqb j k)) (lacks k qs) h) ∙ ap not (eq-eqb j k e))
+    true≢false (sym (and_left (not (eqb (refusal_number j) k)) (lacks k qs) h) ∙ ap not (eq-eqb (refusal_number j) k e))
 
 -- where none of the first checks refuses, the later ones decide
 pub refusal_skip : (a b : List Check) → numbered a ≡ true → refusal a ≡ 0 → refusal (a ++ b) ≡ refusal b
-unfolding refusal lacks
+unfolding refusal checked lacks
 refusal_skip [] b h e = refl
-refusal_skip (check j true ∷ qs) b h e = refusal_skip qs b (and_right (not (eqb j 0)) (lacks 0 qs) h) e
-refusal_skip (check j false ∷ qs) b h e = absurd (true≢false (sym (and_left (not (eqb j 0)) (lacks 0 qs) h) ∙ ap not (eq-eqb j 0 e)))
+refusal_skip (check j true ∷ qs) b h e = refusal_skip qs b (and_right (not (eqb (refusal_number j) 0)) (lacks 0 qs) h) e
+refusal_skip (check j false ∷ qs) b h e = absurd (true≢false (sym (and_left (not (eqb (refusal_number j) 0)) (lacks 0 qs) h) ∙ ap not (eq-eqb (refusal_number j) 0 e)))
 
 -- where one of them refuses, it stays so
 pub refusal_stop : (a b : List Check) → (refusal a ≡ 0 → ⊥) → refusal (a ++ b) ≡ refusal a
-unfolding refusal
+unfolding refusal checked
 refusal_stop [] b h = absurd (h refl)
 refusal_stop (check k true ∷ qs) b h = refusal_stop qs b h
 refusal_stop (check k false ∷ qs) b h = refl
 
 -- a check that passes leaves it to those behind it
-pub refusal_pass : (k : ℕ) (b : Bool) (qs : List Check) → b ≡ true → refusal (check k b ∷ qs) ≡ refusal qs
-unfolding refusal
+pub refusal_pass : (k : Refusal) (b : Bool) (qs : List Check) → b ≡ true → refusal (check k b ∷ qs) ≡ refusal qs
+unfolding refusal checked
 refusal_pass k b qs e = rw e
+
+-- the same of the answer
+pub checked_skip : (a b : List Check) → checked a ≡ Ok tt → checked (a ++ b) ≡ checked b
+unfolding checked
+checked_skip [] b e = refl
+checked_skip (check k true ∷ qs) b e = checked_skip qs b e
+checked_skip (check k false ∷ qs) b e = cc
+
+pub checked_stop : (a b : List Check) (k : Refusal) → checked a ≡ Err k → checked (a ++ b) ≡ Err k
+unfolding checked
+checked_stop [] b k e = cc
+checked_stop (check j true ∷ qs) b k e = checked_stop qs b k e
+checked_stop (check j false ∷ qs) b k e = e
 
 -- what a call that makes a check tells, behind a `!`
 pub said_yes : (b q : Bool) → b ≡ q → not b ≡ false → q ≡ true
@@ -62,10 +108,10 @@ module _ {A : Type 0} where
 
 -- ---- nothing is refused
 
-pub refusal_none : (k : ℕ) (b : Bool) (qs : List Check) → refusal (check (suc k) b ∷ qs) ≡ 0 → (b ≡ true) × (refusal qs ≡ 0)
-unfolding refusal
+pub refusal_none : (k : Refusal) (b : Bool) (qs : List Check) → refusal (check k b ∷ qs) ≡ 0 → (b ≡ true) × (refusal qs ≡ 0)
+unfolding refusal checked
 refusal_none k true qs e = (refl, e)
-refusal_none k false qs e = absurd (omega arith)
+refusal_none k false qs e = absurd (number_positive k e)
 
 pub refusal_none_left : (a b : List Check) → refusal (a ++ b) ≡ 0 → refusal a ≡ 0
 refusal_none_left a b e = elim (ℕ_discrete (refusal a) 0) [ yes z ↦ z | no z ↦ absurd (z (sym (refusal_stop a b z) ∙ e)) ]
@@ -77,7 +123,7 @@ pub lacks_append : (k : ℕ) (a b : List Check) → lacks k a ≡ true → lacks
 unfolding lacks
 lacks_append k [] b h l = l
 lacks_append k (check j y ∷ qs) b h l =
-    and_both (and_left (not (eqb j k)) (lacks k qs) h) (lacks_append k qs b (and_right (not (eqb j k)) (lacks k qs) h) l)
+    and_both (and_left (not (eqb (refusal_number j) k)) (lacks k qs) h) (lacks_append k qs b (and_right (not (eqb (refusal_number j) k)) (lacks k qs) h) l)
 
 -- the same checks of one thing after the other
 pub lacks_join : {A : Type 0} (k : ℕ) (f : A → List Check) → ((x : A) → lacks k (f x) ≡ true) → (xs : List A) → lacks k (join (map f xs)) ≡ true

@@ -9,7 +9,7 @@ use Rattle.units.specs.Limits.{hall}
 use Rattle.rules.specs.Grid.{digits, lawful, until_black, inside, line_sum, meets, keeps_line, cell, row, column, line, lines, lawful_grid, Puzzle, target, keeps}
 use Rattle.rules.specs.Mark.{rejects, mark_row, mark_column, mark_value, mark_spare, black_with, has, keeps_mark, marks_of}
 use Rattle.rules.specs.Number.{grids, solves, number, capped}
-use Rattle.rules.specs.Check.{refusal, max_target, named, check_line, count_checks, solve_checks, sheet_checks, sums_checks}
+use Rattle.rules.specs.Check.{checked, refusal, max_target, named, check_line, count_checks, solve_checks, sheet_checks, sums_checks}
 use Rattle.rules.specs.Sums.{target_sums}
 use Rattle.rules.proofs.SizeFour.{threes, threes_none}
 
@@ -142,7 +142,7 @@ unfolding
     cell row column line lines lawful_grid target keeps
     rejects black_with has keeps_mark marks_of
     grids solves number capped
-    refusal max_target named count_checks solve_checks sheet_checks sums_checks
+    refusal checked max_target named count_checks solve_checks sheet_checks sums_checks
     target_sums
     right two three sample samples
 facts =

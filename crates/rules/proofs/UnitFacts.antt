@@ -7,7 +7,7 @@ use Rattle.units.specs.declared.Unit.{Unit}
 use Rattle.units.specs.Limits.{hall, classroom, list_limit}
 use Rattle.rules.specs.Grid.{until_black, inside, line_sum, cell, row, column, line, lines, Puzzle, puzzle}
 use Rattle.rules.specs.Mark.{marks_of}
-use Rattle.rules.specs.Check.{refusal, max_target, named, count_checks, solve_checks, sheet_checks, sums_checks}
+use Rattle.rules.specs.Check.{checked, refusal, max_target, named, count_checks, solve_checks, sheet_checks, sums_checks}
 use Rattle.rules.specs.Sums.{target_sums}
 
 -- a list of k times x
@@ -51,7 +51,7 @@ record UnitFacts : Type 0 where
 facts : UnitFacts
 unfolding
     span sum all count join until_black inside line_sum cell row column line lines
-    marks_of refusal max_target named count_checks solve_checks sheet_checks sums_checks target_sums
+    marks_of refusal checked max_target named count_checks solve_checks sheet_checks sums_checks target_sums
 facts =
     record {
       hall_sizes = refl;

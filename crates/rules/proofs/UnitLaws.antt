@@ -9,12 +9,15 @@ use lib.Dec.{leb}
 use lib.ListN.{length}
 use Rattle.tally.specs.Tally.{join}
 use Rattle.tally.proofs.TallyLaws.{and_right}
+use Rattle.refusal.specs.declared.Refusal.{Refusal}
+use Rattle.refusal.specs.declared.Refusal.TheVariants.{Size, SizeLimit, ListLimit}
+use Rattle.refusal.specs.Number.{refusal_number}
 use Rattle.units.specs.declared.Unit.{Unit}
 use Rattle.units.specs.Limits.{hall, takes_size, takes_list}
 use Rattle.rules.specs.Grid.{Puzzle, line, lines}
-use Rattle.rules.specs.Check.{Check, check, refusal, check_size, check_lengths, check_mark, check_buffer, check_line, check_unit_size, puzzle_checks, count_checks, solve_checks, sheet_checks, sums_checks}
+use Rattle.rules.specs.Check.{Check, check, checked, refusal, check_size, check_lengths, check_mark, check_buffer, check_line, check_unit_size, puzzle_checks, count_checks, solve_checks, sheet_checks, sums_checks}
 use Rattle.rules.specs.CheckParts.{size_fits, check_targets, mark_checks}
-use Rattle.rules.proofs.CheckLaws.{lacks, numbered, refusal_lacks, refusal_skip, refusal_stop, refusal_pass, refusal_none, lacks_append, lacks_join}
+use Rattle.rules.proofs.CheckLaws.{number_positive, lacks, numbered, refusal_lacks, refusal_skip, refusal_stop, refusal_pass, refusal_none, lacks_append, lacks_join}
 
 -- ---- ALIKE: two units that both take the size and the list, or both do not, ask the same
 
@@ -42,17 +45,17 @@ module _ (u v : Unit) (p : Puzzle) (s : takes_size u p.size ≡ takes_size v p.s
 abbrev pub Exactly : Type 0 → Type 0 → Type 0
 Exactly A B = (A → B) × (B → A)
 
-module _ (k : ℕ) (z : k ≡ 0 → ⊥) (a : List Check) (b : Bool) (c : List Check) (h : lacks k a ≡ true) (q : numbered a ≡ true) (l : lacks k c ≡ true) where
-  fails : (b : Bool) → refusal (check k b ∷ c) ≡ k → b ≡ false
-  unfolding refusal
-  fails true e = absurd (refusal_lacks k c l z e)
+module _ (k : Refusal) (a : List Check) (b : Bool) (c : List Check) (h : lacks (refusal_number k) a ≡ true) (q : numbered a ≡ true) (l : lacks (refusal_number k) c ≡ true) where
+  fails : (b : Bool) → refusal (check k b ∷ c) ≡ refusal_number k → b ≡ false
+  unfolding refusal checked
+  fails true e = absurd (refusal_lacks (refusal_number k) c l (number_positive k) e)
   fails false e = refl
 
-  first : refusal (a ++ check k b ∷ c) ≡ k → refusal a ≡ 0
-  first e = elim (ℕ_discrete (refusal a) 0) [ yes y ↦ y | no n ↦ absurd (refusal_lacks k a h z (sym (refusal_stop a (check k b ∷ c) n) ∙ e)) ]
+  first : refusal (a ++ check k b ∷ c) ≡ refusal_number k → refusal a ≡ 0
+  first e = elim (ℕ_discrete (refusal a) 0) [ yes y ↦ y | no n ↦ absurd (refusal_lacks (refusal_number k) a h (number_positive k) (sym (refusal_stop a (check k b ∷ c) n) ∙ e)) ]
 
-  pub refusal_exactly : Exactly (refusal (a ++ check k b ∷ c) ≡ k) ((refusal a ≡ 0) × (b ≡ false))
-  unfolding refusal
+  pub refusal_exactly : Exactly (refusal (a ++ check k b ∷ c) ≡ refusal_number k) ((refusal a ≡ 0) × (b ≡ false))
+  unfolding refusal checked
   refusal_exactly = (
     λ e. (first e, fails b (sym (refusal_skip a (check k b ∷ c) q (first e)) ∙ e)),
     λ y. refusal_skip a (check k b ∷ c) q y.0 ∙ rw y.1,
@@ -73,10 +76,10 @@ lines_lack k h n g = lacks_join k (λ ℓ. check_line (line n g ℓ)) (λ ℓ. h
 -- c: the checks behind 18
 size_exactly : (u : Unit) (n : ℕ) (c : List Check) → lacks 18 c ≡ true →
     Exactly (refusal (check_size n ∷ check_unit_size u n ∷ c) ≡ 18) ((size_fits n ≡ true) × (takes_size u n ≡ false))
-unfolding lacks refusal
+unfolding lacks refusal checked
 size_exactly u n c l =
-    let e = refusal_exactly 18 (λ z. omega arith) (check_size n ∷ []) (takes_size u n) c refl refl l in (
-      λ r. let y = e.0 r in ((refusal_none 0 (size_fits n) [] y.0).0, y.1),
+    let e = refusal_exactly SizeLimit (check_size n ∷ []) (takes_size u n) c refl refl l in (
+      λ r. let y = e.0 r in ((refusal_none Size (size_fits n) [] y.0).0, y.1),
       λ y. e.1 (rw y.0, y.1),
     )
 
@@ -107,19 +110,19 @@ module _ (u : Unit) where
 
     pub count_19 : (ms : List ℕ) → Exactly (refusal (count_checks u p ms) ≡ 19) ((refusal (puzzle_checks u p) ≡ 0) × (takes_list u (length ms) ≡ false))
     unfolding count_checks lacks
-    count_19 ms = refusal_exactly 19 (λ z. omega arith) (puzzle_checks u p) (takes_list u (length ms)) (mark_checks p.size ms) refl refl (marks_lack 19 refl p.size ms)
+    count_19 ms = refusal_exactly ListLimit (puzzle_checks u p) (takes_list u (length ms)) (mark_checks p.size ms) refl refl (marks_lack 19 refl p.size ms)
 
     pub solve_19 : (ms : List ℕ) (len : ℕ) →
         Exactly (refusal (solve_checks u p ms len) ≡ 19) ((refusal (puzzle_checks u p) ≡ 0) × (takes_list u (length ms) ≡ false))
     unfolding solve_checks count_checks lacks
     solve_19 ms len =
-        refusal_exactly 19 (λ z. omega arith) (puzzle_checks u p) (takes_list u (length ms)) (mark_checks p.size ms ++ check_buffer p.size len ∷ []) refl refl
+        refusal_exactly ListLimit (puzzle_checks u p) (takes_list u (length ms)) (mark_checks p.size ms ++ check_buffer p.size len ∷ []) refl refl
         (lacks_append 19 (mark_checks p.size ms) (check_buffer p.size len ∷ []) (marks_lack 19 refl p.size ms) refl)
 
 -- ---- THE HALL: 18 and 19 may be left out
 
 -- a check that passes where those before it do may be left out
-refusal_less : (a : List Check) (k : ℕ) (b : Bool) (c : List Check) → numbered a ≡ true → (refusal a ≡ 0 → b ≡ true) → refusal (a ++ check k b ∷ c) ≡ refusal (a ++ c)
+refusal_less : (a : List Check) (k : Refusal) (b : Bool) (c : List Check) → numbered a ≡ true → (refusal a ≡ 0 → b ≡ true) → refusal (a ++ check k b ∷ c) ≡ refusal (a ++ c)
 refusal_less a k b c q h =
     elim (ℕ_discrete (refusal a) 0) [
       | yes y ↦ refusal_skip a (check k b ∷ c) q y ∙ refusal_pass k b c (h y) ∙ sym (refusal_skip a c q y)
@@ -129,7 +132,7 @@ refusal_less a k b c q h =
 hall_size : (n : ℕ) (c : List Check) → refusal (check_size n ∷ check_unit_size hall n ∷ c) ≡ refusal (check_size n ∷ c)
 unfolding lacks
 hall_size n c =
-    refusal_less (check_size n ∷ []) 18 (takes_size hall n) c refl (λ e. and_right (leb 2 n) (leb n 9) (refusal_none 0 (size_fits n) [] e).0)
+    refusal_less (check_size n ∷ []) SizeLimit (takes_size hall n) c refl (λ e. and_right (leb 2 n) (leb n 9) (refusal_none Size (size_fits n) [] e).0)
 
 -- the checks of a puzzle without units: 1, 2, 3
 abbrev pub plain_checks : Puzzle → List Check
@@ -152,10 +155,10 @@ module _ (p : Puzzle) where
   pub hall_count : (ms : List ℕ) → refusal (count_checks hall p ms) ≡ refusal (plain_checks p ++ mark_checks p.size ms)
   unfolding count_checks lacks
   hall_count ms =
-      refusal_less (puzzle_checks hall p) 19 true (mark_checks p.size ms) refl (λ _. refl) ∙ hall_size p.size _
+      refusal_less (puzzle_checks hall p) ListLimit true (mark_checks p.size ms) refl (λ _. refl) ∙ hall_size p.size _
 
   pub hall_solve : (ms : List ℕ) (len : ℕ) →
       refusal (solve_checks hall p ms len) ≡ refusal (plain_checks p ++ (mark_checks p.size ms ++ check_buffer p.size len ∷ []))
   unfolding solve_checks count_checks lacks
   hall_solve ms len =
-      refusal_less (puzzle_checks hall p) 19 true (mark_checks p.size ms ++ check_buffer p.size len ∷ []) refl (λ _. refl) ∙ hall_size p.size _
+      refusal_less (puzzle_checks hall p) ListLimit true (mark_checks p.size ms ++ check_buffer p.size len ∷ []) refl (λ _. refl) ∙ hall_size p.size _

@@ -1,32 +1,36 @@
--- The checks that a call makes of its input, and the number that it refuses by. Assumes nothing.
--- The numbers: 1 size, 2 lengths of the target slices, 3 targets; of a mark 4 spare bits, 5 cell, 6 value; 7 length of the buffer; of a line 8 blacks,
--- 9 numbers between them, 10 sum; 11 the line of a text (crates/text_rules); 18 the unit's greatest size, 19 its longest list. The others up to 21 are
--- kept for what docs/INTERFACE.md says; answers begin at 100.
-use Rattle.std.specs.Prelude.{ℕ, ◌-◌, ◌*◌, ◌/◌, Bool, not, ◌&&◌, ◌||◌, cond, List, [], ◌∷◌, ◌++◌, map, eqb, ltb, leb, length}
+-- The checks that a call makes of its input, and the refusal that it answers. Assumes nothing.
+use Rattle.std.specs.Prelude.{⊤, ℕ, ◌-◌, ◌*◌, ◌/◌, Bool, not, ◌&&◌, ◌||◌, cond, List, [], ◌∷◌, ◌++◌, map, eqb, ltb, leb, length, Result, Ok, Err}
 use Rattle.tally.specs.Tally.{all, join}
+use Rattle.refusal.specs.Number.{number_of}
+use Rattle.refusal.specs.declared.Refusal.{Refusal}
+use Rattle.refusal.specs.declared.Refusal.TheVariants.{Size, TargetLengths, Target, MarkSpare, MarkPlace, MarkValue, CellsLength, Blacks, EmptyCell, Sum, SizeLimit, ListLimit}
 use Rattle.units.specs.declared.Unit.{Unit}
 use Rattle.units.specs.Limits.{takes_size, takes_list}
 use Rattle.rules.specs.Grid.{two_blacks, inside, line_sum, Puzzle, line, lines}
 use Rattle.rules.specs.Mark.{mark_row, mark_column, mark_value, mark_spare}
 
--- A check: its number, and whether the input passes.
+-- A check: what refuses, and whether the input passes.
 pub data Check : Type 0 where
-  check : ℕ → Bool → Check
+  check : Refusal → Bool → Check
 
--- The refusal: the number of the first check that fails, or 0.
+-- The answer to the checks: the first that fails refuses.
+unfoldable pub checked : List Check → Result ⊤ Refusal
+checked [] = Ok tt
+checked (check k ok ∷ cs) = cond ok (checked cs) (Err k)
+
+-- The refusal by its number: that of the first check that fails, or 0.
 unfoldable pub refusal : List Check → ℕ
-refusal [] = 0
-refusal (check k ok ∷ cs) = cond ok (refusal cs) k
+refusal cs = number_of (checked cs)
 
 -- ---- the checks, by their numbers
 
 -- 1: the size is 2 to 9.
 abbrev pub check_size : ℕ → Check
-check_size n = check 1 (leb 2 n && leb n 9)
+check_size n = check Size (leb 2 n && leb n 9)
 
 -- 2: both target slices, by their lengths, are n long.
 abbrev pub check_lengths : ℕ → ℕ → ℕ → Check
-check_lengths n rows columns = check 2 (eqb rows n && eqb columns n)
+check_lengths n rows columns = check TargetLengths (eqb rows n && eqb columns n)
 
 -- The greatest target: the sum of all digits.
 unfoldable pub max_target : ℕ → ℕ
@@ -39,23 +43,23 @@ named n v = leb 1 v && leb v (n - 2) || leb 8 v && leb v 11
 -- 4, 5, 6: the spare bits of a mark are zero, its cell lies in the grid, its value is named.
 abbrev pub check_mark : ℕ → ℕ → List Check
 check_mark n m =
-    check 4 (eqb (mark_spare m) 0) ∷ check 5 (ltb (mark_row m) n && ltb (mark_column m) n) ∷ check 6 (named n (mark_value m)) ∷ []
+    check MarkSpare (eqb (mark_spare m) 0) ∷ check MarkPlace (ltb (mark_row m) n && ltb (mark_column m) n) ∷ check MarkValue (named n (mark_value m)) ∷ []
 
 -- 7: the cell or table buffer, by its length, is n * n long.
 abbrev pub check_buffer : ℕ → ℕ → Check
-check_buffer n len = check 7 (eqb len (n * n))
+check_buffer n len = check CellsLength (eqb len (n * n))
 
 -- 8, 9, 10: a line has exactly two blacks, only numbers between them, and a sum of at most 255.
 abbrev pub check_line : List ℕ → List Check
 check_line l =
-    check 8 (two_blacks l) ∷ check 9 (all (λ c. not (eqb c 0)) (inside l)) ∷ check 10 (leb (line_sum l) 255) ∷ []
+    check Blacks (two_blacks l) ∷ check EmptyCell (all (λ c. not (eqb c 0)) (inside l)) ∷ check Sum (leb (line_sum l) 255) ∷ []
 
 -- 18, 19: the unit takes the size; it takes a list of this many marks.
 abbrev pub check_unit_size : Unit → ℕ → Check
-check_unit_size u n = check 18 (takes_size u n)
+check_unit_size u n = check SizeLimit (takes_size u n)
 
 abbrev pub check_unit_list : Unit → ℕ → Check
-check_unit_list u marks = check 19 (takes_list u marks)
+check_unit_list u marks = check ListLimit (takes_list u marks)
 
 -- ---- the checks of each call in a unit, in its order
 
@@ -65,7 +69,7 @@ puzzle_checks u p =
     check_size p.size
     ∷ check_unit_size u p.size
     ∷ check_lengths p.size (length p.rows) (length p.columns)
-    ∷ check 3 (all (λ t. leb t (max_target p.size)) p.rows && all (λ t. leb t (max_target p.size)) p.columns)
+    ∷ check Target (all (λ t. leb t (max_target p.size)) p.rows && all (λ t. leb t (max_target p.size)) p.columns)
     ∷ []
 
 -- Count: 1, 18, 2, 3, 19, then 4, 5, 6 mark by mark.

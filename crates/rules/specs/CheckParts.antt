@@ -1,6 +1,7 @@
 -- What single checks ask, by names of their own, for the functions that make them. Assumes nothing.
 use Rattle.std.specs.Prelude.{ℕ, Bool, ◌&&◌, List, ◌∷◌, map, eqb, leb, length}
 use Rattle.tally.specs.Tally.{all, join}
+use Rattle.refusal.specs.declared.Refusal.TheVariants.{Target}
 use Rattle.units.specs.declared.Unit.{Unit}
 use Rattle.rules.specs.Check.{Check, check, max_target, check_mark, check_unit_list}
 
@@ -14,7 +15,7 @@ targets_fit n rows columns = eqb rows n && eqb columns n
 
 -- 3: each target is at most the greatest.
 abbrev pub check_targets : ℕ → List ℕ → List ℕ → Check
-check_targets n rows columns = check 3 (all (λ t. leb t (max_target n)) rows && all (λ t. leb t (max_target n)) columns)
+check_targets n rows columns = check Target (all (λ t. leb t (max_target n)) rows && all (λ t. leb t (max_target n)) columns)
 
 -- A cell is empty.
 abbrev pub is_empty : ℕ → Bool

@@ -11,6 +11,7 @@ use native.Mathlib.Decide.{ℕ_discrete}
 use lib.Dec.{eqb}
 use lib.ListN.{length, get_or}
 use borrow.Author.Tests.{eqb-true, eq-eqb, ne_eqb}
+use Rattle.std.specs.List.{list_all}
 use Rattle.tally.specs.Tally.{one_if, sum, all, any, count, in_front, ways, span}
 use Rattle.tally.specs.Way.{Way, done, put}
 
@@ -245,3 +246,11 @@ unfolding span
 map_at f a zero i h = absurd (omega arith)
 map_at f a (suc k) zero h = ap f (omega arith)
 map_at f a (suc k) (suc i) h = map_at f (suc a) k i (omega arith) ∙ ap f (omega arith)
+
+-- ---- the library's words for the same
+
+module _ {A : Type 0} (p : A → Bool) where
+  pub all_listed : (xs : List A) → list_all p xs ≡ all p xs
+  unfolding all
+  all_listed [] = refl
+  all_listed (x ∷ xs) = ap (λ r. p x && r) (all_listed xs)

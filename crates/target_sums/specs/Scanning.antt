@@ -4,6 +4,7 @@ use Rattle.tally.specs.Tally.{sum, count}
 use Rattle.rules.specs.Grid.{is_black, until_black, inside, line_sum}
 use Rattle.rules.specs.CheckParts.{is_empty}
 use Rattle.rules.specs.Strided.{strided}
+use Rattle.grid_lines.specs.declared.Lines.{Lines}
 use Rattle.target_sums.specs.declared.Scan.{Scan}
 
 -- the walk has seen the cells l
@@ -28,23 +29,12 @@ pub record BehindBlack (r n : ℕ) (l : List ℕ) : Type 0 where
   pub in_line : r ≤ n
   pub between : inside l ≡ until_black (drop r l)
 
--- each cell of the line lies in the buffer
-pub record LineAsk (start stride n len : ℕ) : Type 0 where
-  pub short : n ≤ 9
-  pub reach : (j : ℕ) → j < n → start + j * stride < len
+-- what lies between a place of the n cells l and the next black adds up to a byte
+pub record ToBlackAsk (l : List ℕ) (n from : ℕ) : Type 0 where
+  pub in_line : from ≤ n
+  pub fits : sum (until_black (drop from l)) ≤ 255
 
--- and what lies between a place and the next black adds up to a byte
-pub record ToBlackAsk (start stride n : ℕ) (g : List ℕ) (from : ℕ) : Type 0 where
-  pub within : LineAsk start stride n (length g)
-  pub fits : sum (until_black (drop from (strided start stride g n))) ≤ 255
-
--- each cell of each of the n lines does
-pub record LinesInside (step stride n len : ℕ) : Type 0 where
-  pub short : n ≤ 9
-  pub reach : (i j : ℕ) → i < n → j < n → i * step + j * stride < len
-
--- the n sums fit, and so does the slice that they go into
-pub record SumsAsk (step stride : ℕ) (g : List ℕ) (n m : ℕ) : Type 0 where
-  pub within : LinesInside step stride n (length g)
-  pub fit : (i : ℕ) → i < n → line_sum (strided (i * step) stride g n) ≤ 255
-  pub room : m ≡ n
+-- the sums of the lines fit, and so does the slice that they go into
+pub record SumsAsk (lines : Lines) (m : ℕ) : Type 0 where
+  pub fit : (i : ℕ) → i < lines.count → line_sum (strided (i * lines.step) lines.stride lines.cells.now lines.count) ≤ 255
+  pub room : m ≡ lines.count

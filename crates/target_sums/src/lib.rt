@@ -1,24 +1,19 @@
-// Target sums of a grid of cells (in the Rust: grid.rs, compute_targets). A line is read by its start and its stride, so that rows and columns
-// are one case.
+// Target sums of a grid of cells (in the Rust: grid.rs, compute_targets).
 #![tactic(auto)]
 
 ghost use Rattle.std.specs.Prelude.{◌≡◌, ◌≤◌, length, drop};
 ghost use Rattle.tally.specs.Tally.{sum, join};
 ghost use Rattle.rules.specs.Grid.{until_black, line_sum};
-ghost use Rattle.rules.specs.Check.{refusal, check_line, sums_checks};
+ghost use Rattle.rules.specs.Check.{checked, check_line, sums_checks};
 ghost use Rattle.rules.specs.Sums.{target_sums};
-ghost use Rattle.rules.specs.Strided.{strided, each};
-ghost use Rattle.target_sums.specs.Answer.{SumsAnswered, number_of};
-ghost use Rattle.target_sums.specs.Scanning.{Seen, Small, OneMore, BehindBlack, LineAsk, ToBlackAsk, LinesInside, SumsAsk};
+ghost use Rattle.grid_lines.specs.Cells.{line_cells, each_line};
+ghost use Rattle.target_sums.specs.Answer.{SumsAnswered};
+ghost use Rattle.target_sums.specs.Scanning.{Seen, Small, OneMore, BehindBlack, ToBlackAsk, SumsAsk};
 
-use puzzle::{size_fits, targets_fit, wide};
+use grid_lines::{Line, Lines};
+use puzzle::{size_fits, targets_fit};
+use refusal::Refusal;
 use units::Unit;
-
-#[derive(Clone, Copy)]
-pub enum Summed {
-    Refused(u8),
-    Done,
-}
 
 // What a walk along a line has found: blacks, empty cells between the first two, and the sum there.
 #[derive(Clone, Copy)]
@@ -35,8 +30,7 @@ fn add_cell(s: Scan, c: u8) -> Scan
     if c == 255 {
         return Scan {
             blacks: s.blacks + 1,
-            empties: s.empties,
-            sum: s.sum,
+            ..s
         };
     }
     if s.blacks != 1 {
@@ -44,144 +38,123 @@ fn add_cell(s: Scan, c: u8) -> Scan
     }
     if c == 0 {
         return Scan {
-            blacks: s.blacks,
             empties: s.empties + 1,
-            sum: s.sum,
+            ..s
         };
     }
     Scan {
-        blacks: s.blacks,
-        empties: s.empties,
-        sum: s.sum + wide(c),
+        sum: s.sum + usize::from(c),
+        ..s
     }
 }
 
-fn scan_line(cells: &[u8], start: usize, stride: usize, n: usize) -> Scan
-    requires { LineAsk start stride n (length cells.now) }
-    ensures { Seen result (strided start stride cells.now n) }
+fn scan_line(line: Line) -> Scan
+    ensures { Seen result (line_cells line.entry) }
 {
     let mut s = Scan {
         blacks: 0,
         empties: 0,
         sum: 0,
     };
-    let mut j = 0;
-    while j < n {
-        let at = start + j * stride;
-        s = add_cell(s, cells[at]);
-        j += 1;
+    for j in 0..line.len {
+        s = add_cell(s, line.byte(j));
     }
     s
 }
 
-// The number that a line is refused by, or 0.
-fn line_refusal(cells: &[u8], start: usize, stride: usize, n: usize) -> u8
-    requires { LineAsk start stride n (length cells.now) }
-    ensures { result ≡ refusal (check_line (strided start stride cells.now n)) }
+// The checks of a line.
+fn check_line(line: Line) -> Result<(), Refusal>
+    ensures { result ≡ checked (check_line (line_cells line.entry)) }
 {
-    let s = scan_line(cells, start, stride, n);
+    let s = scan_line(line);
     if s.blacks != 2 {
-        return 8;
+        return Err(Refusal::Blacks);
     }
     if s.empties != 0 {
-        return 9;
+        return Err(Refusal::EmptyCell);
     }
     if 255 < s.sum {
-        return 10;
+        return Err(Refusal::Sum);
     }
-    0
+    Ok(())
 }
 
-// The number that n lines, which start at 0, step, 2 step, .., are refused by, or 0.
-fn lines_refusal(cells: &[u8], step: usize, stride: usize, n: usize) -> u8
-    requires { LinesInside step stride n (length cells.now) }
-    ensures { result ≡ refusal (join (each check_line step stride cells.now n n)) }
+// The checks of one line after the other.
+fn check_lines(lines: Lines) -> Result<(), Refusal>
+    ensures { result ≡ checked (join (each_line check_line lines.entry)) }
 {
-    let mut i = 0;
-    while i < n {
-        let k = line_refusal(cells, i * step, stride, n);
-        if k != 0 {
-            return k;
-        }
-        i += 1;
+    for i in 0..lines.count {
+        check_line(lines.line(i))?;
     }
-    0
+    Ok(())
 }
 
 // The place behind the first black of a line, or its end.
-fn past_black(cells: &[u8], start: usize, stride: usize, n: usize) -> usize
-    requires { LineAsk start stride n (length cells.now) }
-    ensures { BehindBlack result n (strided start stride cells.now n) }
+fn past_black(line: Line) -> usize
+    ensures { BehindBlack result line.entry.len (line_cells line.entry) }
 {
-    let mut j = 0;
-    while j < n {
-        if cells[start + j * stride] == 255 {
+    for j in 0..line.len {
+        if line.byte(j) == 255 {
             return j + 1;
         }
-        j += 1;
     }
-    n
+    line.len
 }
 
 // The sum of the cells from a place of a line up to the next black.
-fn sum_to_black(cells: &[u8], start: usize, stride: usize, n: usize, from: usize) -> u8
-    requires { ToBlackAsk start stride n cells.now from }
-    ensures { result ≡ sum (until_black (drop from (strided start stride cells.now n))) }
+fn sum_to_black(line: Line, from: usize) -> u8
+    requires { ToBlackAsk (line_cells line) line.len from }
+    ensures { result ≡ sum (until_black (drop from (line_cells line.entry))) }
 {
     let mut s = 0;
-    let mut j = from;
-    while j < n {
-        let c = cells[start + j * stride];
+    for j in from..line.len {
+        let c = line.byte(j);
         if c == 255 {
             return s;
         }
         s += c;
-        j += 1;
     }
     s
 }
 
 // The sum between the blacks: no cell behind the second is read.
-pub fn line_sum(cells: &[u8], start: usize, stride: usize, n: usize) -> u8
-    requires { (LineAsk start stride n (length cells.now)) × (line_sum (strided start stride cells.now n) ≤ 255) }
-    ensures { result ≡ line_sum (strided start stride cells.now n) }
+pub fn line_sum(line: Line) -> u8
+    requires { line_sum (line_cells line) ≤ 255 }
+    ensures { result ≡ line_sum (line_cells line.entry) }
 {
-    let from = past_black(cells, start, stride, n);
-    sum_to_black(cells, start, stride, n, from)
+    let from = past_black(line);
+    sum_to_black(line, from)
 }
 
-fn put_sums(cells: &[u8], step: usize, stride: usize, n: usize, out: &mut [u8])
-    requires { SumsAsk step stride cells.now n (length out.old) }
-    ensures { out.new ≡ each line_sum step stride cells.now n n }
+fn put_sums(lines: Lines, out: &mut [u8])
+    requires { SumsAsk lines (length out.old) }
+    ensures { out.new ≡ each_line line_sum lines.entry }
 {
-    let mut i = 0;
-    while i < n {
-        out[i] = line_sum(cells, i * step, stride, n);
-        i += 1;
+    for i in 0..lines.count {
+        out[i] = line_sum(lines.line(i));
     }
 }
 
-// The number that the input is refused by, or 0.
-fn sums_refusal(unit: Unit, n: usize, cells: &[u8], rows: usize, columns: usize) -> u8
-    ensures { result ≡ refusal (sums_checks unit n cells.now rows columns) }
+// The checks of target sums in a unit.
+fn check_sums(unit: Unit, n: usize, cells: &[u8], rows: usize, columns: usize) -> Result<(), Refusal>
+    ensures { result ≡ checked (sums_checks unit n cells.now rows columns) }
 {
     if !size_fits(n) {
-        return 1;
+        return Err(Refusal::Size);
     }
     if !unit.takes_size(n) {
-        return 18;
+        return Err(Refusal::SizeLimit);
     }
     if cells.len() != n * n {
-        return 7;
+        return Err(Refusal::CellsLength);
     }
     if !targets_fit(n, rows, columns) {
-        return 2;
+        return Err(Refusal::TargetLengths);
     }
-    let k = lines_refusal(cells, n, 1, n);
-    if k != 0 {
-        return k;
-    }
-    lines_refusal(cells, 1, n, n)
+    let across = Lines::rows(cells, n);
+    let down = Lines::columns(cells, n);
+    check_lines(across)?;
+    check_lines(down)
 }
 
 // The target sums of the cells, rows then columns, written where nothing is refused.
@@ -191,25 +164,12 @@ pub fn compute_targets(
     cells: &[u8],
     rows: &mut [u8],
     columns: &mut [u8],
-) -> Summed
+) -> Result<(), Refusal>
     ensures { SumsAnswered (target_sums unit size cells.now rows.old columns.old)
         result rows.new columns.new }
 {
-    let k = sums_refusal(unit, size, cells, rows.len(), columns.len());
-    if k != 0 {
-        return Summed::Refused(k);
-    }
-    put_sums(cells, size, 1, size, rows);
-    put_sums(cells, 1, size, size, columns);
-    Summed::Done
-}
-
-// The number of an answer, for hosts.
-pub fn number(answer: Summed) -> u8
-    ensures { result ≡ number_of answer }
-{
-    match answer {
-        Summed::Refused(k) => k,
-        Summed::Done => 0,
-    }
+    check_sums(unit, size, cells, rows.len(), columns.len())?;
+    put_sums(Lines::rows(cells, size), rows);
+    put_sums(Lines::columns(cells, size), columns);
+    Ok(())
 }

@@ -4,30 +4,33 @@
 ghost use Rattle.std.specs.Prelude.{◌≡◌};
 ghost use Rattle.units.specs.Limits.{hall, classroom, takes_size, takes_list, list_limit};
 
-// How many marks a list may have.
-#[derive(Clone, Copy)]
-pub enum ListLimit {
-    None,
-    Marks(usize),
-}
-
-// A unit: the greatest size that it takes, and its limit for lists.
-#[derive(Clone, Copy)]
+// A unit: the greatest size that it takes, and how many marks a list may have, where it has a limit for lists.
+#[derive(Clone, Copy, Debug, PartialEq, Eq)]
 pub struct Unit {
     pub greatest: usize,
-    pub longest: ListLimit,
+    pub longest: Option<usize>,
 }
 
 impl Unit {
-    pub const HALL: Unit = Unit {
-        greatest: 9,
-        longest: ListLimit::None,
-    };
+    // Takes sizes up to 9 and any list.
+    pub fn hall() -> Unit
+        ensures { result ≡ hall }
+    {
+        Unit {
+            greatest: 9,
+            longest: None,
+        }
+    }
 
-    pub const CLASSROOM: Unit = Unit {
-        greatest: 6,
-        longest: ListLimit::Marks(40),
-    };
+    // Takes sizes up to 6 and lists of at most 40 marks.
+    pub fn classroom() -> Unit
+        ensures { result ≡ classroom }
+    {
+        Unit {
+            greatest: 6,
+            longest: Some(40),
+        }
+    }
 
     pub fn takes_size(self, n: usize) -> bool
         ensures { result ≡ takes_size self n }
@@ -39,48 +42,20 @@ impl Unit {
     pub fn takes_list(self, marks: usize) -> bool
         ensures { result ≡ takes_list self marks }
     {
-        let limit = self.longest;
-        match limit {
-            ListLimit::None => true,
-            ListLimit::Marks(most) => marks <= most,
-        }
+        self.longest.is_none_or(|most| marks <= most)
+    }
+
+    // The greatest size, as a host may ask for it.
+    pub fn size_limit(self) -> usize
+        ensures { result ≡ self.greatest }
+    {
+        self.greatest
     }
 
     // The limit for lists as a number, for hosts: the greatest of all where there is none.
     pub fn list_limit(self) -> usize
         ensures { result ≡ list_limit self }
     {
-        let limit = self.longest;
-        match limit {
-            ListLimit::None => 18446744073709551615,
-            ListLimit::Marks(most) => most,
-        }
+        self.longest.unwrap_or(usize::MAX)
     }
-}
-
-// The limits, as a host may ask for them.
-pub fn hall_size_limit() -> usize
-    ensures { result ≡ hall.greatest }
-{
-    let unit = Unit::HALL;
-    unit.greatest
-}
-
-pub fn hall_list_limit() -> usize
-    ensures { result ≡ list_limit hall }
-{
-    Unit::HALL.list_limit()
-}
-
-pub fn classroom_size_limit() -> usize
-    ensures { result ≡ classroom.greatest }
-{
-    let unit = Unit::CLASSROOM;
-    unit.greatest
-}
-
-pub fn classroom_list_limit() -> usize
-    ensures { result ≡ list_limit classroom }
-{
-    Unit::CLASSROOM.list_limit()
 }

@@ -1,25 +1,11 @@
--- `puzzle::all_within` meets its contract: the targets from i on decide. Assumes nothing.
-use mathlib.Core.Path.{refl, sym, ◌∙◌}
-use native.Mathlib.Omega.{arith}
-use lib.Dec.{leb}
-use lib.ListN.{get_or}
-use borrow.Author.Tests.{le-leb, lt-leb}
-use borrow.Author.Rules.{rules}
-use Rattle.rules.proofs.EachLaws.{list_yes, list_no, list_end}
+-- `puzzle::all_within` meets its contract: the test of the closure is that of the definition. Assumes nothing.
+use Rattle.std.proofs.Common.{◌∙◌, leb, rules, tests}
+use Rattle.std.proofs.lemmas.Iterator.{YieldsList-from_slice}
+use Rattle.std.proofs.lemmas.Iterator.Search.{all_from_yields_List}
+use Rattle.tally.proofs.TallyLaws.{all_listed}
 use Rattle.puzzle.proofs.all_within.Goals as goal
 
-pub loop-i-init : goal.loop-i-init
-loop-i-init c = (search rules, refl)
-
-pub returns-then-limit-t : goal.returns-then-limit-t
-returns-then-limit-t c =
-    let a = c.args in
-    sym (c.loop-i.invariant.1 ∙ list_no (λ t. leb t a.limit) a.targets.now c.loop-i.i c.loop-i-test.true (lt-leb (get_or a.targets.now c.loop-i.i 0) a.limit (omega arith)))
-
-pub loop-i-preserved : goal.loop-i-preserved
-loop-i-preserved c =
-    let a = c.args in
-    (search rules, c.loop-i.invariant.1 ∙ list_yes (λ t. leb t a.limit) a.targets.now c.loop-i.i c.loop-i-test.true (le-leb (get_or a.targets.now c.loop-i.i 0) a.limit (omega arith)))
-
 pub returns : goal.returns
-returns c = sym (c.loop-i.invariant.1 ∙ list_end (λ t. leb t c.args.limit) _ c.loop-i.i c.loop-i-test.false)
+returns c =
+    all_from_yields_List (λ t. leb t c.args.limit) _ _ c.all.result c.all.ensures.ran (YieldsList-from_slice c.args.targets.now cc) (λ x b q k. search (rules, tests))
+    ∙ all_listed (λ t. leb t c.args.limit) c.args.targets.now

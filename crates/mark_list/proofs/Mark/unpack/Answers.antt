@@ -4,4 +4,4 @@ use Rattle.mark_list.proofs.Mark.unpack.Goals as goal
 
 pub returns : goal.returns
 unfolding rejects
-returns c = rw (c.wide-row.ensures, c.wide-column.ensures, c.wide-value.ensures)
+returns c = rw (c.from-row.ensures, c.from-column.ensures, c.from-value.ensures)

@@ -1,7 +1,7 @@
--- `mark_list::mark_refusal` meets its contract. Assumes nothing.
+-- `mark_list::check_mark` meets its contract. Assumes nothing.
 use borrow.Author.Rules.{rules}
 use Rattle.mark_list.proofs.MarkLaws.{mark_4, mark_5_row, mark_5_column, mark_0, mark_6}
-use Rattle.mark_list.proofs.mark_refusal.Goals as goal
+use Rattle.mark_list.proofs.check_mark.Goals as goal
 
 pub returns-then-word-ne0 : goal.returns-then-word-ne0
 returns-then-word-ne0 c = search (rules, mark_4)

@@ -1,9 +1,9 @@
--- `puzzle::puzzle_refusal` meets its contract: the checks' laws, in their order. Assumes nothing.
+-- `puzzle::check_puzzle` meets its contract: the checks' laws, in their order. Assumes nothing.
 use borrow.Author.Rules.{rules}
 use Rattle.rules.proofs.CheckLaws.{said_yes, said_no}
 use Rattle.rules.proofs.SizeLaws.{size_in}
 use Rattle.puzzle.proofs.PuzzleLaws.{puzzle_1, puzzle_18, puzzle_2, puzzle_3_rows, puzzle_3_columns, puzzle_0}
-use Rattle.puzzle.proofs.puzzle_refusal.Goals as goal
+use Rattle.puzzle.proofs.check_puzzle.Goals as goal
 
 pub returns-then-not-size_fits : goal.returns-then-not-size_fits
 returns-then-not-size_fits c = search (rules, puzzle_1, said_no)

@@ -1,7 +1,7 @@
--- `target_sums::line_refusal` meets its contract. Assumes nothing.
+-- `target_sums::check_line` meets its contract. Assumes nothing.
 use borrow.Author.Rules.{rules}
 use Rattle.target_sums.proofs.LineLaws.{line_8, line_9, line_10, line_0}
-use Rattle.target_sums.proofs.line_refusal.Goals as goal
+use Rattle.target_sums.proofs.check_line.Goals as goal
 
 pub returns-then-s-ne2 : goal.returns-then-s-ne2
 returns-then-s-ne2 c = search (rules, line_8)

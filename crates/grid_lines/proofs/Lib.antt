@@ -1,0 +1,2 @@
+-- What the proofs of several crates use.
+pub mod LinesLaws

@@ -1,0 +1,78 @@
+// The lines of a grid of cells, read where they lie: a line by its first cell and its stride, so that rows and columns are one case.
+#![tactic(auto)]
+
+ghost use Rattle.std.specs.Prelude.{◌≡◌, ℕ, ◌+◌, ◌*◌, ◌≤◌, ◌<◌, length, get_or};
+ghost use Rattle.rules.specs.Size.{Size};
+
+// A line of at most nine cells: its first cell, the way from cell to cell, and how many it has.
+#[derive(Clone, Copy)]
+pub struct Line<'a> {
+    pub cells: &'a [u8],
+    pub start: usize,
+    pub stride: usize,
+    pub len: usize,
+    pub ghost short: { len ≤ 9 },
+    pub ghost inside: { (j : ℕ) → j < len → start + j * stride < length cells.now },
+}
+
+impl<'a> Line<'a> {
+    // The cell at a place.
+    pub fn byte(self, j: usize) -> u8
+        requires { j < self.len }
+        ensures { result ≡ get_or self.entry.cells.now (self.entry.start + j * self.entry.stride) 0 }
+    {
+        self.cells[self.start + j * self.stride]
+    }
+}
+
+// As many lines as each has cells, the first cells of which are a step apart.
+#[derive(Clone, Copy)]
+pub struct Lines<'a> {
+    pub cells: &'a [u8],
+    pub step: usize,
+    pub stride: usize,
+    pub count: usize,
+    pub ghost short: { count ≤ 9 },
+    pub ghost inside: { (i j : ℕ) → i < count → j < count → i * step + j * stride < length cells.now },
+}
+
+impl<'a> Lines<'a> {
+    // The rows of n * n cells.
+    pub fn rows(cells: &'a [u8], n: usize) -> Lines<'a>
+        requires { Size n × (length cells.now ≡ n * n) }
+        ensures { (result.cells.now ≡ cells.now) × (result.step ≡ n) × (result.stride ≡ 1) × (result.count ≡ n) }
+    {
+        Lines {
+            cells,
+            step: n,
+            stride: 1,
+            count: n,
+        }
+    }
+
+    // Their columns.
+    pub fn columns(cells: &'a [u8], n: usize) -> Lines<'a>
+        requires { Size n × (length cells.now ≡ n * n) }
+        ensures { (result.cells.now ≡ cells.now) × (result.step ≡ 1) × (result.stride ≡ n) × (result.count ≡ n) }
+    {
+        Lines {
+            cells,
+            step: 1,
+            stride: n,
+            count: n,
+        }
+    }
+
+    // Line i.
+    pub fn line(self, i: usize) -> Line<'a>
+        requires { i < self.count }
+        ensures { (result.cells.now ≡ self.entry.cells.now) × (result.start ≡ i * self.entry.step) × (result.stride ≡ self.entry.stride) × (result.len ≡ self.entry.count) }
+    {
+        Line {
+            cells: self.cells,
+            start: i * self.step,
+            stride: self.stride,
+            len: self.count,
+        }
+    }
+}
