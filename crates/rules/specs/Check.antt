@@ -18,6 +18,11 @@ unfoldable pub checked : List Check → Result ⊤ Refusal
 checked [] = Ok tt
 checked (check k ok ∷ cs) = cond ok (checked cs) (Err k)
 
+-- The answer of a call that gives a value where nothing is refused.
+abbrev pub answered : {A : Type 0} → Result ⊤ Refusal → A → Result A Refusal
+answered (Ok _) a = Ok a
+answered (Err k) a = Err k
+
 -- The refusal by its number: that of the first check that fails, or 0.
 unfoldable pub refusal : List Check → ℕ
 refusal cs = number_of (checked cs)

@@ -6,9 +6,10 @@ use mathlib.Core.List.{List, [], ◌∷◌, ◌++◌, map}
 use Rattle.tally.specs.Tally.{span, sum, all, count, join}
 use Rattle.units.specs.Limits.{hall}
 use Rattle.rules.specs.Grid.{digits, lawful, until_black, inside, line_sum, meets, keeps_line, cell, row, column, line, lines, Puzzle, target, keeps}
-use Rattle.rules.specs.Check.{refusal, max_target, sheet_checks, sums_checks}
+use Rattle.rules.specs.Check.{checked, refusal, max_target, sheet_checks, sums_checks}
 use Rattle.rules.specs.Sums.{target_sums}
-use Rattle.sheet_marking.specs.declared.Marked.TheVariants.{Refused, Right, Wrong}
+use Rattle.std.specs.Prelude.{Ok, Err, true, false}
+use Rattle.refusal.specs.declared.Refusal.TheVariants.{CellsLength}
 use Rattle.sheet_marking.specs.Answer.{mark_sheet}
 
 abbrev rows : List ℕ
@@ -44,25 +45,25 @@ abbrev with_first : ℕ → List ℕ
 with_first c = sheet (c ∷ 1 ∷ 255 ∷ 255 ∷ 1 ∷ 255 ∷ 2 ∷ 255 ∷ [])
 
 record SheetFacts : Type 0 where
-  key_right : mark_sheet hall puzzle key ≡ Right
+  key_right : mark_sheet hall puzzle key ≡ Ok true
   -- a repeated digit is wrong, in a row and in a column, though the sums are those of the key
-  reported_wrong : mark_sheet hall puzzle reported ≡ Wrong
+  reported_wrong : mark_sheet hall puzzle reported ≡ Ok false
   reported_sums : target_sums hall 4 reported blank blank ≡ (0, rows, columns)
-  column_wrong : mark_sheet hall puzzle in_column ≡ Wrong
+  column_wrong : mark_sheet hall puzzle in_column ≡ Ok false
   column_sums : target_sums hall 4 in_column blank blank ≡ (0, rows, columns)
   column_rows : all (λ r. lawful 4 (row 4 in_column r)) (span 0 4) ≡ true
   -- an empty cell, a digit that size 4 does not have, any other byte, a third black: wrong, not refused
-  others_wrong : map (λ c. mark_sheet hall puzzle (with_first c)) (0 ∷ 3 ∷ 254 ∷ 255 ∷ []) ≡ Wrong ∷ Wrong ∷ Wrong ∷ Wrong ∷ []
+  others_wrong : map (λ c. mark_sheet hall puzzle (with_first c)) (0 ∷ 3 ∷ 254 ∷ 255 ∷ []) ≡ Ok false ∷ Ok false ∷ Ok false ∷ Ok false ∷ []
   -- another sum
-  sum_wrong : mark_sheet hall (record { size = 4; rows = rows; columns = 0 ∷ 0 ∷ 2 ∷ 0 ∷ [] }) key ≡ Wrong
-  short_refused : mark_sheet hall puzzle blank ≡ Refused 7
+  sum_wrong : mark_sheet hall (record { size = 4; rows = rows; columns = 0 ∷ 0 ∷ 2 ∷ 0 ∷ [] }) key ≡ Ok false
+  short_refused : mark_sheet hall puzzle blank ≡ Err CellsLength
 
 facts : SheetFacts
 unfolding
     span sum all count join
     digits lawful until_black inside line_sum meets keeps_line
     cell row column line lines target keeps
-    refusal max_target sheet_checks sums_checks
+    checked refusal max_target sheet_checks sums_checks
     target_sums mark_sheet
 facts =
     record {

@@ -1,17 +1,10 @@
--- The answer of marking, by its cases. Assumes nothing.
-use Rattle.std.specs.Prelude.{ℕ, zero, suc, Bool, true, false, List}
+-- The answer of marking. Assumes nothing.
+use Rattle.std.specs.Prelude.{Bool, List, ℕ, Result}
+use Rattle.refusal.specs.declared.Refusal.{Refusal}
 use Rattle.units.specs.declared.Unit.{Unit}
 use Rattle.rules.specs.Grid.{Puzzle, keeps}
-use Rattle.rules.specs.Check.{refusal, sheet_checks}
-use Rattle.sheet_marking.specs.declared.Marked.{Marked}
-use Rattle.sheet_marking.specs.declared.Marked.TheVariants.{Refused, Right, Wrong}
+use Rattle.rules.specs.Check.{checked, answered, sheet_checks}
 
--- The answer of a refusal number and a test: 0 is not refused, and the test decides.
-abbrev pub marked_as : ℕ → Bool → Marked
-marked_as (suc k) right = Refused (suc k)
-marked_as zero true = Right
-marked_as zero false = Wrong
-
--- The answer in a unit for a puzzle and a sheet of cells: right exactly when the cells keep the puzzle.
-unfoldable pub mark_sheet : Unit → Puzzle → List ℕ → Marked
-mark_sheet u p cells = marked_as (refusal (sheet_checks u p cells)) (keeps p cells)
+-- The answer in a unit for a puzzle and a sheet of cells: whether it is right, exactly when the cells keep the puzzle.
+unfoldable pub mark_sheet : Unit → Puzzle → List ℕ → Result Bool Refusal
+mark_sheet u p cells = answered (checked (sheet_checks u p cells)) (keeps p cells)

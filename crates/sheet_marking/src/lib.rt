@@ -4,40 +4,34 @@
 ghost use Rattle.std.specs.Prelude.{◌≡◌, ◌*◌, ◌^◌, length, get_or};
 ghost use Rattle.tally.specs.Tally.{all, span};
 ghost use Rattle.rules.specs.Grid.{digits_once, two_blacks, line_sum, meets, keeps_line, keeps, puzzle};
-ghost use Rattle.rules.specs.Check.{refusal, sheet_checks};
+ghost use Rattle.rules.specs.Check.{checked, sheet_checks};
 ghost use Rattle.rules.specs.Size.{Size};
 ghost use Rattle.rules.specs.Strided.{strided};
-ghost use Rattle.target_sums.specs.Scanning.{LineAsk};
+ghost use Rattle.grid_lines.specs.Cells.{line_cells};
 ghost use Rattle.sheet_marking.specs.Answer.{mark_sheet};
 ghost use Rattle.sheet_marking.specs.Counts.{byte_place, CountsOf, CountsTell};
-ghost use Rattle.sheet_marking.specs.Fault.{line_fault, is_none};
-ghost use Rattle.sheet_marking.specs.Marking.{MarkLineAsk, LawfulAsk, MarkLinesAsk, MarkSheetAsk};
+ghost use Rattle.sheet_marking.specs.Fault.{line_fault};
+ghost use Rattle.sheet_marking.specs.Marking.{LawfulAsk, MarkSheetAsk};
 
-use puzzle::{puzzle_refusal, wide};
+use grid_lines::{Line, Lines};
+use puzzle::check_puzzle;
+use refusal::Refusal;
 use target_sums::line_sum;
 use units::Unit;
 
-#[derive(Clone, Copy)]
-pub enum Marked {
-    Refused(u8),
-    Right,
-    Wrong,
-}
-
-// The fault of a line: the first step of its check that fails, in the sequence of the printed rules, or none.
-#[derive(Clone, Copy)]
+// The fault of a line: the first step of its check that fails, in the sequence of the printed rules.
+#[derive(Clone, Copy, Debug, PartialEq, Eq)]
 pub enum LineFault {
     Digits,
     Blacks,
     Sum,
-    None,
 }
 
 // Where the count of a byte stands: a black at 0, an empty cell at 1, a digit behind these, all others at 9.
 fn byte_place(c: u8) -> usize
     ensures { result ≡ byte_place c }
 {
-    let v = (wide(c) + 1) % 256;
+    let v = (usize::from(c) + 1) % 256;
     if v < 9 { v } else { 9 }
 }
 
@@ -50,15 +44,12 @@ fn one_at(c: u8) -> u64
 }
 
 // How often each byte stands in a line, without a branch on the cell: it takes as long for every line.
-fn byte_counts(cells: &[u8], start: usize, stride: usize, n: usize) -> u64
-    requires { LineAsk start stride n (length cells.now) }
-    ensures { CountsOf result (strided start stride cells.now n) }
+fn byte_counts(line: Line) -> u64
+    ensures { CountsOf result (line_cells line.entry) }
 {
     let mut m = 0;
-    let mut j = 0;
-    while j < n {
-        m += one_at(cells[start + j * stride]);
-        j += 1;
+    for j in 0..line.len {
+        m += one_at(line.byte(j));
     }
     m
 }
@@ -79,79 +70,55 @@ fn two_blacks(m: u64) -> bool
     m % 16 == 2
 }
 
-// A target is met by a sum.
-fn meets_target(t: u8, s: u8) -> bool
-    ensures { result ≡ meets t s }
-{
-    t == s
-}
-
 // Step 3: the sum between the blacks meets the target. It is asked of lawful lines only, so that a byte holds it.
-fn sum_meets(cells: &[u8], start: usize, stride: usize, n: usize, t: u8) -> bool
-    requires { LawfulAsk start stride n cells.now }
-    ensures { result ≡ meets t (line_sum (strided start stride cells.now n)) }
+fn sum_meets(line: Line, t: u8) -> bool
+    requires { LawfulAsk line.len (line_cells line) }
+    ensures { result ≡ meets t (line_sum (line_cells line.entry)) }
 {
-    let s = line_sum(cells, start, stride, n);
-    meets_target(t, s)
+    t == line_sum(line)
 }
 
 // The check of a line: the three steps, one after the other.
-pub fn line_fault(cells: &[u8], start: usize, stride: usize, n: usize, t: u8) -> LineFault
-    requires { MarkLineAsk start stride n (length cells.now) }
-    ensures { result ≡ line_fault n t (strided start stride cells.now n) }
+pub fn line_fault(line: Line, t: u8) -> Option<LineFault>
+    requires { Size line.len }
+    ensures { result ≡ line_fault line.entry.len t (line_cells line.entry) }
 {
-    let m = byte_counts(cells, start, stride, n);
-    if !digits_once(m, n) {
-        return LineFault::Digits;
+    let m = byte_counts(line);
+    if !digits_once(m, line.len) {
+        return Some(LineFault::Digits);
     }
     if !two_blacks(m) {
-        return LineFault::Blacks;
+        return Some(LineFault::Blacks);
     }
-    if !sum_meets(cells, start, stride, n, t) {
-        return LineFault::Sum;
+    if !sum_meets(line, t) {
+        return Some(LineFault::Sum);
     }
-    LineFault::None
+    None
 }
 
-// No step failed.
-fn is_none(fault: LineFault) -> bool
-    ensures { result ≡ is_none fault }
+// Each of the lines keeps its target.
+fn lines_keep(lines: Lines, targets: &[u8]) -> bool
+    requires { Size lines.count × (length targets.now ≡ lines.count) }
+    ensures { result ≡ all (λ i. keeps_line lines.entry.count (get_or targets.now i 0)
+        (strided (i * lines.entry.step) lines.entry.stride lines.entry.cells.now lines.entry.count)) (span 0 lines.entry.count) }
 {
-    match fault {
-        LineFault::None => true,
-        LineFault::Digits => false,
-        LineFault::Blacks => false,
-        LineFault::Sum => false,
-    }
-}
-
-// Each of n lines, which start at 0, step, 2 step, .., keeps its target.
-fn lines_keep(cells: &[u8], step: usize, stride: usize, n: usize, targets: &[u8]) -> bool
-    requires { MarkLinesAsk step stride n (length cells.now) (length targets.now) }
-    ensures { result ≡ all (λ i. keeps_line n (get_or targets.now i 0) (strided (i * step) stride cells.now n)) (span 0 n) }
-{
-    let mut i = 0;
-    while i < n {
-        if !is_none(line_fault(cells, i * step, stride, n, targets[i])) {
+    for i in 0..lines.count {
+        if line_fault(lines.line(i), targets[i]).is_some() {
             return false;
         }
-        i += 1;
     }
     true
 }
 
-// The number that the input is refused by, or 0.
-fn sheet_refusal(unit: Unit, n: usize, rows: &[u8], columns: &[u8], cells: &[u8]) -> u8
-    ensures { result ≡ refusal (sheet_checks unit (puzzle n rows.now columns.now) cells.now) }
+// The checks of a sheet in a unit.
+fn check_sheet(unit: Unit, n: usize, rows: &[u8], columns: &[u8], cells: &[u8]) -> Result<(), Refusal>
+    ensures { result ≡ checked (sheet_checks unit (puzzle n rows.now columns.now) cells.now) }
 {
-    let k = puzzle_refusal(unit, n, rows, columns);
-    if k != 0 {
-        return k;
-    }
+    check_puzzle(unit, n, rows, columns)?;
     if cells.len() != n * n {
-        return 7;
+        return Err(Refusal::CellsLength);
     }
-    0
+    Ok(())
 }
 
 // The sheet keeps the puzzle: each row, then each column keeps its target.
@@ -159,23 +126,21 @@ fn sheet_right(n: usize, rows: &[u8], columns: &[u8], cells: &[u8]) -> bool
     requires { MarkSheetAsk n (length cells.now) (length rows.now) (length columns.now) }
     ensures { result ≡ keeps (puzzle n rows.now columns.now) cells.now }
 {
-    if !lines_keep(cells, n, 1, n, rows) {
-        return false;
-    }
-    lines_keep(cells, 1, n, n, columns)
+    let across = Lines::rows(cells, n);
+    let down = Lines::columns(cells, n);
+    lines_keep(across, rows) && lines_keep(down, columns)
 }
 
-// Right exactly when the cells keep the puzzle.
-pub fn mark_sheet(unit: Unit, size: usize, rows: &[u8], columns: &[u8], cells: &[u8]) -> Marked
+// Whether the sheet is right: exactly when the cells keep the puzzle.
+pub fn mark_sheet(
+    unit: Unit,
+    size: usize,
+    rows: &[u8],
+    columns: &[u8],
+    cells: &[u8],
+) -> Result<bool, Refusal>
     ensures { result ≡ mark_sheet unit (puzzle size rows.now columns.now) cells.now }
 {
-    let k = sheet_refusal(unit, size, rows, columns, cells);
-    if k != 0 {
-        return Marked::Refused(k);
-    }
-    if sheet_right(size, rows, columns, cells) {
-        Marked::Right
-    } else {
-        Marked::Wrong
-    }
+    check_sheet(unit, size, rows, columns, cells)?;
+    Ok(sheet_right(size, rows, columns, cells))
 }

@@ -9,4 +9,4 @@ pub returns-then-v-lt9 : goal.returns-then-v-lt9
 returns-then-v-lt9 c = place_low _ _ (search rules) (omega arith) (search rules)
 
 pub returns-else-v-lt9 : goal.returns-else-v-lt9
-returns-else-v-lt9 c = place_high _ ((c.wide.result + 1) % 256) (search rules) (omega arith) (search rules)
+returns-else-v-lt9 c = place_high _ ((c.from.result + 1) % 256) (search rules) (omega arith) (search rules)

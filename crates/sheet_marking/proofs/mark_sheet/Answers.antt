@@ -1,16 +1,15 @@
 -- `sheet_marking::mark_sheet` meets its contract. Assumes nothing.
-use borrow.Author.Rules.{rules}
-use Rattle.sheet_marking.proofs.MarkingLaws.{fit, marked_refused, marked_right, marked_wrong}
+use Rattle.std.proofs.lemmas.Result.{err_from_is_err_and}
+use Rattle.sheet_marking.proofs.MarkingLaws.{fit, marked_refused, marked}
 use Rattle.sheet_marking.proofs.mark_sheet.Goals as goal
 
-pub returns-then-k-ne0 : goal.returns-then-k-ne0
-returns-then-k-ne0 c = search (rules, marked_refused)
+pub returns-in_err-check_sheet : goal.returns-in_err-check_sheet
+returns-in_err-check_sheet c =
+    let p = err_from_is_err_and c.from_residual.result c.from_residual.ensures.1 in
+    rw (p.1, p.2) (marked_refused _ _ _ _ c.in_err-check_sheet.ensures)
 
 pub sheet_right-requires : goal.sheet_right-requires
-sheet_right-requires c = fit _ _ _ _ c.sheet_refusal-k.ensures c.if-k-ne0.false
+sheet_right-requires c = fit _ _ _ c.in_ok-check_sheet.ensures
 
-pub returns-then-sheet_right : goal.returns-then-sheet_right
-returns-then-sheet_right c = search (rules, marked_right)
-
-pub returns-else-sheet_right : goal.returns-else-sheet_right
-returns-else-sheet_right c = search (rules, marked_wrong)
+pub returns : goal.returns
+returns c = marked _ _ _ c.in_ok-check_sheet.ensures _ c.sheet_right.ensures
