@@ -11,11 +11,13 @@ use lib.ListN.{length}
 use borrow.Author.Tests.{lt-ltb, le-leb}
 use Rattle.tally.specs.Tally.{any}
 use Rattle.tally.proofs.TallyLaws.{and_left, and_right, and_both, false_of}
+use Rattle.std.specs.Prelude.{⊤, Result, Ok, Err}
+use Rattle.refusal.specs.declared.Refusal.{Refusal}
 use Rattle.units.specs.declared.Unit.{Unit}
 use Rattle.rules.specs.Grid.{Puzzle, across, down, keeps}
 use Rattle.rules.specs.Mark.{rejects, mark_row, mark_column, mark_value}
 use Rattle.rules.proofs.GridLaws.{solution_way}
-use Rattle.rules.specs.Check.{refusal, solve_checks}
+use Rattle.rules.specs.Check.{checked, solve_checks}
 use Rattle.rules.specs.Number.{solves, number, Solution}
 use Rattle.table.specs.Table.{Table, first_black, every_value, fits, table_of, in_row, in_column, same_half}
 use Rattle.table.specs.Steps.{marked_all}
@@ -43,7 +45,7 @@ use Rattle.prepare.specs.Prepared.{Marked}
 use Rattle.engine.specs.Answer.{SolveAsk}
 use Rattle.engine.proofs.CountLaws.{count_left}
 use Rattle.engine.proofs.SolveLaws.{solve_small}
-use Rattle.candidates.specs.declared.Outcome.TheVariants.{Refused, Contradicted, Written}
+use Rattle.candidates.specs.declared.Outcome.TheVariants.{Contradicted, Written}
 use Rattle.candidates.specs.Remaining.{Remaining, WrittenTable, TableGiven, Tabled}
 use Rattle.candidates.proofs.SameClosed.{closed_same}
 
@@ -212,12 +214,12 @@ tabled_none z = record { done = λ e. absurd (true≢false (sym e)); none = λ _
 pub tabled_done : {p : Puzzle} {ms table table' : List ℕ} → WrittenTable p ms table' → Tabled p ms true table table'
 tabled_done w = record { done = λ _. w; none = λ e. absurd (true≢false e) }
 
-pub table_refused : {u : Unit} {p : Puzzle} {ms table : List ℕ} {k : ℕ} → k ≡ refusal (solve_checks u p ms (length table)) → (k ≡ 0 → ⊥) → TableGiven u p ms (Refused k) table table
-table_refused d z = record { refused = λ _. (ap Refused d, refl); answered = λ e. absurd (z (d ∙ e)) }
+pub table_refused : {u : Unit} {p : Puzzle} {ms table : List ℕ} (k : Refusal) → Err k ≡ checked (solve_checks u p ms (length table)) → TableGiven u p ms (Err k) table table
+table_refused k d = record { refused = λ j e. (d ∙ e, refl); answered = λ e. let z : Err k ≡ Ok tt = d ∙ e in cc }
 
-module _ {u : Unit} {p : Puzzle} {ms table table' : List ℕ} {k : ℕ} {b : Bool} (d : k ≡ refusal (solve_checks u p ms (length table))) (z : k ≡ 0) (t : Tabled p ms b table table') where
-  pub table_written : b ≡ true → TableGiven u p ms Written table table'
-  table_written e = record { refused = λ x. absurd (x (sym d ∙ z)); answered = λ _. inl (refl, t.done e) }
+module _ {u : Unit} {p : Puzzle} {ms table table' : List ℕ} {b : Bool} (d : Ok tt ≡ checked (solve_checks u p ms (length table))) (t : Tabled p ms b table table') where
+  pub table_written : b ≡ true → TableGiven u p ms (Ok Written) table table'
+  table_written e = record { refused = λ k x. let z : Ok tt ≡ Err k = d ∙ x in cc; answered = λ _. inl (refl, t.done e) }
 
-  pub table_none : b ≡ false → TableGiven u p ms Contradicted table table'
-  table_none e = record { refused = λ x. absurd (x (sym d ∙ z)); answered = λ _. let u = t.none e in inr (refl, u.0, u.1) }
+  pub table_none : b ≡ false → TableGiven u p ms (Ok Contradicted) table table'
+  table_none e = record { refused = λ k x. let z : Ok tt ≡ Err k = d ∙ x in cc; answered = λ _. let u = t.none e in inr (refl, u.0, u.1) }

@@ -1,17 +1,18 @@
 -- The answer of Candidates, and what the table that it writes owes. Which candidates remain beyond that, and whether a contradiction is seen, is left
 -- open. Assumes nothing.
-use Rattle.std.specs.Prelude.{ℕ, ◌*◌, ◌<◌, ◌≡◌, Bool, true, false, ◌≢◌, ◌⊎◌, length}
+use Rattle.std.specs.Prelude.{ℕ, ◌*◌, ◌<◌, ◌≡◌, Bool, true, false, ◌≢◌, ◌⊎◌, length, Result, Ok, Err}
 use mathlib.Core.List.{List, Memᴰ}
 use Rattle.tally.specs.Tally.{any}
+use Rattle.refusal.specs.declared.Refusal.{Refusal}
 use Rattle.units.specs.declared.Unit.{Unit}
 use Rattle.rules.specs.Grid.{Line, Puzzle, cell}
 use Rattle.rules.specs.Mark.{rejects, mark_row, mark_column, mark_value}
-use Rattle.rules.specs.Check.{refusal, solve_checks}
+use Rattle.rules.specs.Check.{checked, solve_checks}
 use Rattle.rules.specs.Number.{number, Solution}
 use Rattle.table.specs.Table.{Table, first_black, half, every_value, fits, bit_of, has_bit, table_of}
 use Rattle.table.specs.Closed.{Closed}
 use Rattle.candidates.specs.declared.Outcome.{Outcome}
-use Rattle.candidates.specs.declared.Outcome.TheVariants.{Refused, Contradicted, Written}
+use Rattle.candidates.specs.declared.Outcome.TheVariants.{Contradicted, Written}
 
 -- What a table owes a puzzle and marks.
 pub record Remaining (p : Puzzle) (ms : List ℕ) (t : Table) : Type 0 where
@@ -36,10 +37,10 @@ pub record WrittenTable (p : Puzzle) (ms masks : List ℕ) : Type 0 where
       (v : ℕ) × Memᴰ v (every_value p.size) × (bit_of p.size v ≡ b)
 
 -- The answer in a unit and the buffer afterwards. On a refusal and on a contradiction the buffer is as it was; there is a contradiction only where no grid is left.
-pub record TableGiven (u : Unit) (p : Puzzle) (ms : List ℕ) (answer : Outcome) (table table' : List ℕ) : Type 0 where
-  pub refused : (refusal (solve_checks u p ms (length table)) ≡ 0 → ⊥) → (answer ≡ Refused (refusal (solve_checks u p ms (length table)))) × (table' ≡ table)
-  pub answered : refusal (solve_checks u p ms (length table)) ≡ 0 →
-      ((answer ≡ Written) × WrittenTable p ms table') ⊎ ((answer ≡ Contradicted) × (number p ms ≡ 0) × (table' ≡ table))
+pub record TableGiven (u : Unit) (p : Puzzle) (ms : List ℕ) (answer : Result Outcome Refusal) (table table' : List ℕ) : Type 0 where
+  pub refused : (k : Refusal) → checked (solve_checks u p ms (length table)) ≡ Err k → (answer ≡ Err k) × (table' ≡ table)
+  pub answered : checked (solve_checks u p ms (length table)) ≡ Ok tt →
+      ((answer ≡ Ok Written) × WrittenTable p ms table') ⊎ ((answer ≡ Ok Contradicted) × (number p ms ≡ 0) × (table' ≡ table))
 
 -- Whether the table is written; if not, no grid is left.
 pub record Tabled (p : Puzzle) (ms : List ℕ) (is_written : Bool) (table table' : List ℕ) : Type 0 where

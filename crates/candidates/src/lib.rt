@@ -7,16 +7,17 @@ ghost use Rattle.rules.specs.Grid.{puzzle};
 ghost use Rattle.engine.specs.Answer.{SolveAsk};
 ghost use Rattle.candidates.specs.Remaining.{TableGiven, Tabled};
 
-use engine::solve_refusal;
+use engine::check_solve;
 use prepare::prepare;
 use propagate::propagate;
 use queue_state::Slab;
+use refusal::Refusal;
 use units::Unit;
 use written::write_candidates;
 
-#[derive(Clone, Copy)]
+// Whether the table was written, or a cell was left with no candidate.
+#[derive(Clone, Copy, Debug, PartialEq, Eq)]
 pub enum Outcome {
-    Refused(u8),
     Contradicted,
     Written,
 }
@@ -48,17 +49,14 @@ pub fn candidates(
     columns: &[u8],
     marks: &[u8],
     table: &mut [u16],
-) -> Outcome
+) -> Result<Outcome, Refusal>
     ensures { TableGiven unit (puzzle size rows.now columns.now) (marks_of marks.now)
         result table.old table.new }
 {
-    let k = solve_refusal(unit, size, rows, columns, marks, table.len());
-    if k != 0 {
-        return Outcome::Refused(k);
-    }
+    check_solve(unit, size, rows, columns, marks, table.len())?;
     if write_table(size, rows, columns, marks, table) {
-        Outcome::Written
+        Ok(Outcome::Written)
     } else {
-        Outcome::Contradicted
+        Ok(Outcome::Contradicted)
     }
 }

@@ -4,11 +4,12 @@ use Rattle.std.proofs.Common.{sym, ◌∙◌, arith, eqb-true, eq-eqb}
 use mathlib.Core.List.{List, [], ◌∷◌, ◌++◌, Permᴰ}
 use Rattle.tally.specs.Tally.{all, join}
 use Rattle.tally.proofs.TallyLaws.{and_left, and_right, and_both, all_less, all_perm}
+use Rattle.refusal.specs.declared.Refusal.TheVariants.{ListLimit}
 use Rattle.units.specs.declared.Unit.{Unit}
 use Rattle.units.specs.Limits.{takes_list}
 use Rattle.units.proofs.LimitLaws.{within_shorter}
 use Rattle.rules.specs.Grid.{Puzzle}
-use Rattle.rules.specs.Check.{refusal, check_mark, puzzle_checks, count_checks, check_buffer, solve_checks}
+use Rattle.rules.specs.Check.{checked, refusal, check_mark, puzzle_checks, count_checks, check_buffer, solve_checks}
 use Rattle.rules.specs.CheckParts.{mark_checks, list_checks}
 use Rattle.rules.proofs.CheckLaws.{refusal_skip, refusal_pass, refusal_none, refusal_none_left, refusal_none_right}
 use Rattle.puzzle.proofs.PuzzleLaws.{puzzle_numbered}
@@ -27,7 +28,7 @@ marks_pass n (m ∷ ms) e =
     (marks_pass n ms (refusal_none_right (check_mark n m) (mark_checks n ms) (mark_numbered n m) e))
 
 pass_marks : (n : ℕ) (ms : List ℕ) → all (passes n) ms ≡ true → refusal (mark_checks n ms) ≡ 0
-unfolding all join passes refusal
+unfolding all join passes refusal checked
 pass_marks n [] t = refl
 pass_marks n (m ∷ ms) t =
     refusal_skip (check_mark n m) (mark_checks n ms) (mark_numbered n m) (eqb-true _ 0 (and_left _ _ t)) ∙ pass_marks n ms (and_right (passes n m) _ t)
@@ -38,9 +39,9 @@ module _ (u : Unit) (p : Puzzle) (ms ns : List ℕ) (shorter : length ns ≤ len
   unfolding count_checks
   count_accepted e =
       let n = p.size in
-      let l = refusal_none 18 (takes_list u (length ms)) (mark_checks n ms) (refusal_none_right (puzzle_checks u p) (list_checks u n ms) (puzzle_numbered u p) e) in
+      let l = refusal_none ListLimit (takes_list u (length ms)) (mark_checks n ms) (refusal_none_right (puzzle_checks u p) (list_checks u n ms) (puzzle_numbered u p) e) in
       refusal_skip (puzzle_checks u p) (list_checks u n ns) (puzzle_numbered u p) (refusal_none_left (puzzle_checks u p) (list_checks u n ms) e)
-      ∙ refusal_pass 19 (takes_list u (length ns)) (mark_checks n ns) (within_shorter u.longest (length ns) (length ms) shorter l.0)
+      ∙ refusal_pass ListLimit (takes_list u (length ns)) (mark_checks n ns) (within_shorter u.longest (length ns) (length ms) shorter l.0)
       ∙ pass_marks n ns (less (marks_pass n ms l.1))
 
   pub solve_accepted : (len : ℕ) → refusal (solve_checks u p ms len) ≡ 0 → refusal (solve_checks u p ns len) ≡ 0

@@ -1,22 +1,22 @@
 -- The same input in two units that both take it. What a unit refuses by its limits stands with the checks: crates/rules/proofs/UnitLaws.antt. Assumes
 -- nothing.
-use Rattle.std.specs.Prelude.{ℕ, ◌≤◌, ◌≡◌, true, List, length}
+use Rattle.std.specs.Prelude.{ℕ, ◌≤◌, ◌≡◌, true, List, length, Result}
 use Rattle.std.proofs.Math.Path.{sym, ap}
 use Rattle.std.proofs.Common.{◌∙◌, inl, inr, ⊎_elim, arith}
 use Rattle.std.proofs.Math.Decide.{ℕ_discrete}
+use Rattle.refusal.specs.declared.Refusal.{Refusal}
 use Rattle.units.specs.declared.Unit.{Unit}
 use Rattle.units.specs.Limits.{takes_size, takes_list}
 use Rattle.rules.specs.Grid.{Puzzle, keeps}
-use Rattle.rules.specs.Check.{refusal, solve_checks}
+use Rattle.rules.specs.Check.{checked, answered, refusal, solve_checks}
 use Rattle.rules.specs.Number.{number, capped}
 use Rattle.rules.specs.Sums.{summed_as, target_sums}
 use Rattle.rules.proofs.UnitLaws.{alike_sums, alike_sheet, alike_count, alike_solve}
 use Rattle.number.specs.VerdictLaws.{one_only}
-use Rattle.sheet_marking.specs.Answer.{marked_as, mark_sheet}
-use Rattle.engine.specs.Answer.{counted, count_answer, solved_as, solve_answer, SolveWritten}
+use Rattle.sheet_marking.specs.Answer.{mark_sheet}
+use Rattle.engine.specs.Answer.{count_answer, verdict_on, solve_answer, SolveWritten}
 use Rattle.engine.proofs.SolveLaws.{solve_asked}
 use Rattle.candidates.specs.declared.Outcome.{Outcome}
-use Rattle.candidates.specs.declared.Outcome.TheVariants.{Refused}
 use Rattle.candidates.specs.Remaining.{TableGiven}
 
 -- Target sums: the same number, and the same bytes in both target slices.
@@ -30,12 +30,12 @@ module _ (u v : Unit) (p : Puzzle) (a : takes_size u p.size ≡ true) (b : takes
   -- Marking: the same answer.
   pub same_sheet : (cells : List ℕ) → mark_sheet u p cells ≡ mark_sheet v p cells
   unfolding mark_sheet
-  same_sheet cells = ap (λ qs. marked_as (refusal qs) (keeps p cells)) (alike_sheet u v p (a ∙ sym b) cells)
+  same_sheet cells = ap (λ qs. answered (checked qs) (keeps p cells)) (alike_sheet u v p (a ∙ sym b) cells)
 
   module _ (ms : List ℕ) (c : takes_list u (length ms) ≡ true) (d : takes_list v (length ms) ≡ true) where
     -- Count: the same answer, under every cap.
     pub same_count : (cap : ℕ) → count_answer u p ms cap ≡ count_answer v p ms cap
-    same_count cap = ap (λ qs. counted (refusal qs) (capped cap p ms)) (alike_count u v p (a ∙ sym b) ms (c ∙ sym d))
+    same_count cap = ap (λ qs. answered (checked qs) (capped cap p ms)) (alike_count u v p (a ∙ sym b) ms (c ∙ sym d))
 
     -- the refusal of Solve and of Candidates
     refused_alike : (len : ℕ) → refusal (solve_checks u p ms len) ≡ refusal (solve_checks v p ms len)
@@ -43,7 +43,7 @@ module _ (u v : Unit) (p : Puzzle) (a : takes_size u p.size ≡ true) (b : takes
 
     -- Solve: the same answer; what one unit may leave in the cells, the other may.
     pub same_solve : (len : ℕ) → solve_answer u p ms len ≡ solve_answer v p ms len
-    same_solve len = ap (λ k. solved_as k (number p ms)) (refused_alike len)
+    same_solve len = ap (λ qs. answered (checked qs) (verdict_on (number p ms))) (alike_solve u v p (a ∙ sym b) ms (c ∙ sym d) len)
 
     pub same_written : (cells cells' : List ℕ) → SolveWritten u p ms cells cells' → SolveWritten v p ms cells cells'
     same_written cells cells' w =
@@ -66,10 +66,10 @@ module _ (u v : Unit) (p : Puzzle) (a : takes_size u p.size ≡ true) (b : takes
         ]
 
     -- Candidates: what one unit may answer and leave in the table, the other may.
-    pub same_table : (answer : Outcome) (table table' : List ℕ) → TableGiven u p ms answer table table' → TableGiven v p ms answer table table'
+    pub same_table : (answer : Result Outcome Refusal) (table table' : List ℕ) → TableGiven u p ms answer table table' → TableGiven v p ms answer table table'
     same_table answer table table' w =
-        let e = refused_alike (length table) in
+        let e = ap checked (alike_solve u v p (a ∙ sym b) ms (c ∙ sym d) (length table)) in
         record {
-          refused = λ n. let q = w.refused (λ z. n (sym e ∙ z)) in (q.0 ∙ ap Refused e, q.1);
+          refused = λ k z. w.refused k (e ∙ z);
           answered = λ z. w.answered (e ∙ z);
         }

@@ -5,11 +5,14 @@ use mathlib.Core.Bool.{Bool, false, true≢false}
 use mathlib.Core.List.{List}
 use native.Mathlib.Omega.{arith}
 use lib.ListN.{length}
-use Rattle.rules.proofs.CheckLaws.{refusal_skip, refusal_stop, refusal_none, refusal_none_left, refusal_none_right}
+use Rattle.rules.proofs.CheckLaws.{checked_skip, checked_stop, refusal_none, refusal_none_left, refusal_none_right}
+use Rattle.std.specs.Prelude.{Ok, Err}
+use Rattle.refusal.specs.declared.Refusal.{Refusal}
+use Rattle.refusal.specs.declared.Refusal.TheVariants.{ListLimit}
 use Rattle.units.specs.declared.Unit.{Unit}
 use Rattle.units.specs.Limits.{takes_list}
 use Rattle.rules.specs.Grid.{Puzzle}
-use Rattle.rules.specs.Check.{refusal, puzzle_checks, count_checks}
+use Rattle.rules.specs.Check.{checked, refusal, puzzle_checks, count_checks}
 use Rattle.rules.specs.CheckParts.{mark_checks, list_checks}
 use Rattle.rules.specs.Number.{number, capped}
 use Rattle.table.specs.Table.{left}
@@ -22,19 +25,18 @@ use Rattle.fresh.specs.Fresh.{Blank}
 use Rattle.line_laws.proofs.CellValues.{value_small}
 use Rattle.backtrack.specs.Search.{SearchAsk, Searched}
 use Rattle.prepare.specs.Prepared.{PrepareAsk, Prepared, Marked}
-use Rattle.engine.specs.declared.Counted.TheVariants.{Refused, Count}
-use Rattle.engine.specs.Answer.{counted, CountAsk}
+use Rattle.engine.specs.Answer.{count_answer, CountAsk}
 
 -- ---- refusals
 
-module _ (u : Unit) (p : Puzzle) (ms : List ℕ) (k : ℕ) (d : k ≡ refusal (puzzle_checks u p)) where
-  pub refused_puzzle : (k ≡ 0 → ⊥) → k ≡ refusal (count_checks u p ms)
+module _ (u : Unit) (p : Puzzle) (ms : List ℕ) where
+  pub refused_puzzle : (k : Refusal) → Err k ≡ checked (puzzle_checks u p) → Err k ≡ checked (count_checks u p ms)
   unfolding count_checks
-  refused_puzzle z = d ∙ sym (refusal_stop (puzzle_checks u p) (list_checks u p.size ms) (λ e. z (d ∙ e)))
+  refused_puzzle k d = sym (checked_stop (puzzle_checks u p) (list_checks u p.size ms) k (sym d))
 
-  pub refused_list : k ≡ 0 → refusal (list_checks u p.size ms) ≡ refusal (count_checks u p ms)
+  pub refused_list : Ok tt ≡ checked (puzzle_checks u p) → checked (list_checks u p.size ms) ≡ checked (count_checks u p ms)
   unfolding count_checks
-  refused_list z = sym (refusal_skip (puzzle_checks u p) (list_checks u p.size ms) (puzzle_numbered u p) (sym d ∙ z))
+  refused_list d = sym (checked_skip (puzzle_checks u p) (list_checks u p.size ms) (sym d))
 
 -- what a unit does not refuse
 pub count_asked : (u : Unit) (p : Puzzle) (ms : List ℕ) → refusal (count_checks u p ms) ≡ 0 → CountAsk p ms
@@ -42,17 +44,15 @@ unfolding count_checks
 count_asked u p ms e =
     record {
       puzzle = accepted u p (refusal_none_left (puzzle_checks u p) (list_checks u p.size ms) e);
-      marks = (refusal_none 18 (takes_list u (length ms)) (mark_checks p.size ms)
+      marks = (refusal_none ListLimit (takes_list u (length ms)) (mark_checks p.size ms)
           (refusal_none_right (puzzle_checks u p) (list_checks u p.size ms) (puzzle_numbered u p) e)).1;
     }
 
-pub answer_refused : (d k c : ℕ) → k ≡ d → (k ≡ 0 → ⊥) → Refused k ≡ counted d c
-answer_refused zero k c e z = absurd (z e)
-answer_refused (suc d) k c e z = ap Refused e
+pub count_refused : (u : Unit) (p : Puzzle) (ms : List ℕ) (cap : ℕ) (k : Refusal) → Err k ≡ checked (count_checks u p ms) → Err k ≡ count_answer u p ms cap
+count_refused u p ms cap k d = rw (← d)
 
-pub answer_count : (d k c r : ℕ) → k ≡ d → k ≡ 0 → r ≡ c → Count r ≡ counted d c
-answer_count zero k c r e z q = ap Count q
-answer_count (suc d) k c r e z q = absurd (omega arith)
+pub count_done : (u : Unit) (p : Puzzle) (ms : List ℕ) (cap r : ℕ) → Ok tt ≡ checked (count_checks u p ms) → r ≡ capped cap p ms → Ok r ≡ count_answer u p ms cap
+count_done u p ms cap r d e = rw (← d, e)
 
 -- ---- the count
 

@@ -7,12 +7,16 @@ use mathlib.Core.List.{List, [], ◌∷◌}
 use native.Mathlib.Omega.{arith}
 use lib.ListN.{length}
 use borrow.Author.Tests.{eq-eqb, ne_eqb, eqb-true}
+use Rattle.std.specs.Prelude.{Ok, Err}
+use Rattle.refusal.specs.declared.Refusal.{Refusal}
+use Rattle.refusal.specs.declared.Refusal.TheVariants.{CellsLength}
+use Rattle.refusal.specs.Number.{number_of}
 use Rattle.units.specs.declared.Unit.{Unit}
-use Rattle.rules.proofs.CheckLaws.{lacks, numbered, refusal_skip, refusal_stop, refusal_none, refusal_none_left, refusal_none_right, lacks_append}
+use Rattle.rules.proofs.CheckLaws.{lacks, numbered, number_positive, passed_number, checked_skip, checked_stop, refusal_none, refusal_none_left, refusal_none_right, lacks_append}
 use Rattle.rules.proofs.UnitLaws.{marks_lack}
 use Rattle.rules.specs.Size.{Size}
 use Rattle.rules.specs.Grid.{Puzzle, puzzle}
-use Rattle.rules.specs.Check.{check_buffer, refusal, puzzle_checks, count_checks, solve_checks}
+use Rattle.rules.specs.Check.{check_buffer, checked, refusal, puzzle_checks, count_checks, solve_checks}
 use Rattle.rules.specs.CheckParts.{list_checks}
 use Rattle.rules.specs.Number.{number, capped}
 use Rattle.puzzle.proofs.PuzzleLaws.{puzzle_numbered}
@@ -24,9 +28,9 @@ use Rattle.queue_state.specs.Slab.{table_in}
 use Rattle.line_laws.proofs.CellValues.{value_small}
 use Rattle.backtrack.specs.Search.{SearchAsk, Searched}
 use Rattle.prepare.specs.Prepared.{Prepared, Marked}
-use Rattle.engine.specs.declared.Solved.{Solved}
-use Rattle.engine.specs.declared.Solved.TheVariants.{Refused, Unsolvable, Unique, Multiple}
-use Rattle.engine.specs.Answer.{solved_as, solve_answer, SolveWritten, SolveAsk, Found}
+use Rattle.engine.specs.declared.Verdict.{Verdict}
+use Rattle.engine.specs.declared.Verdict.TheVariants.{Unsolvable, Unique, Multiple}
+use Rattle.engine.specs.Answer.{verdict_on, solve_answer, SolveWritten, SolveAsk, Found}
 use Rattle.engine.proofs.CountLaws.{count_asked, count_found, count_none}
 
 -- ---- refusals
@@ -35,25 +39,26 @@ pub count_numbered : (u : Unit) (p : Puzzle) (ms : List ℕ) → numbered (count
 unfolding count_checks lacks
 count_numbered u p ms = lacks_append 0 (puzzle_checks u p) (list_checks u p.size ms) (puzzle_numbered u p) (marks_lack 0 refl p.size ms)
 
-module _ (u : Unit) (p : Puzzle) (ms : List ℕ) (len k : ℕ) (d : k ≡ refusal (count_checks u p ms)) where
-  pub refused_count : (k ≡ 0 → ⊥) → k ≡ refusal (solve_checks u p ms len)
+module _ (u : Unit) (p : Puzzle) (ms : List ℕ) (len : ℕ) where
+  pub refused_count : (k : Refusal) → Err k ≡ checked (count_checks u p ms) → Err k ≡ checked (solve_checks u p ms len)
   unfolding solve_checks
-  refused_count z = d ∙ sym (refusal_stop (count_checks u p ms) (check_buffer p.size len ∷ []) (λ e. z (d ∙ e)))
+  refused_count k d = sym (checked_stop (count_checks u p ms) (check_buffer p.size len ∷ []) k (sym d))
 
-  past : k ≡ 0 → refusal (solve_checks u p ms len) ≡ refusal (check_buffer p.size len ∷ [])
-  unfolding solve_checks
-  past z = refusal_skip (count_checks u p ms) (check_buffer p.size len ∷ []) (count_numbered u p ms) (sym d ∙ z)
+  module _ (d : Ok tt ≡ checked (count_checks u p ms)) where
+    past : checked (solve_checks u p ms len) ≡ checked (check_buffer p.size len ∷ [])
+    unfolding solve_checks
+    past = checked_skip (count_checks u p ms) (check_buffer p.size len ∷ []) (sym d)
 
-  pub refused_7 : k ≡ 0 → (len ≡ p.size * p.size → ⊥) → 7 ≡ refusal (solve_checks u p ms len)
-  unfolding refusal
-  refused_7 z l = sym (past z ∙ rw (ne_eqb len (p.size * p.size) l))
+    pub refused_7 : (len ≡ p.size * p.size → ⊥) → Err CellsLength ≡ checked (solve_checks u p ms len)
+    unfolding checked
+    refused_7 l = sym (past ∙ rw (ne_eqb len (p.size * p.size) l))
 
-  pub refused_0 : k ≡ 0 → len ≡ p.size * p.size → 0 ≡ refusal (solve_checks u p ms len)
-  unfolding refusal
-  refused_0 z l = sym (past z ∙ rw (eq-eqb len (p.size * p.size) l))
+    pub refused_0 : len ≡ p.size * p.size → Ok tt ≡ checked (solve_checks u p ms len)
+    unfolding checked
+    refused_0 l = sym (past ∙ rw (eq-eqb len (p.size * p.size) l))
 
-pub refused_small : (u : Unit) (n : ℕ) (rows columns ms : List ℕ) (k : ℕ) → k ≡ refusal (count_checks u (puzzle n rows columns) ms) → k ≡ 0 → Size n
-refused_small u n rows columns ms k d z = (count_asked u (puzzle n rows columns) ms (sym d ∙ z)).puzzle.size
+pub refused_small : (u : Unit) (n : ℕ) (rows columns ms : List ℕ) → Ok tt ≡ checked (count_checks u (puzzle n rows columns) ms) → Size n
+refused_small u n rows columns ms d = (count_asked u (puzzle n rows columns) ms (passed_number _ (sym d))).puzzle.size
 
 -- what a unit does not refuse
 module _ (u : Unit) (p : Puzzle) (ms : List ℕ) (len : ℕ) (e : refusal (solve_checks u p ms len) ≡ 0) where
@@ -67,18 +72,18 @@ module _ (u : Unit) (p : Puzzle) (ms : List ℕ) (len : ℕ) (e : refusal (solve
       record {
         count = count_asked u p ms solve_counts;
         room = eqb-true len (p.size * p.size)
-            (refusal_none 6 _ [] (refusal_none_right (count_checks u p ms) (check_buffer p.size len ∷ []) (count_numbered u p ms) e)).0;
+            (refusal_none CellsLength _ [] (refusal_none_right (count_checks u p ms) (check_buffer p.size len ∷ []) (count_numbered u p ms) e)).0;
       }
 
 -- ---- the answers
 
-pub verdict_0 : (found : ℕ) → found ≡ 0 → Unsolvable ≡ solved_as 0 found
+pub verdict_0 : (found : ℕ) → found ≡ 0 → Unsolvable ≡ verdict_on found
 verdict_0 found e = rw e
 
-pub verdict_1 : (found : ℕ) → found ≡ 1 → Unique ≡ solved_as 0 found
+pub verdict_1 : (found : ℕ) → found ≡ 1 → Unique ≡ verdict_on found
 verdict_1 found e = rw e
 
-pub verdict_2 : (found : ℕ) → (found ≡ 0 → ⊥) → (found ≡ 1 → ⊥) → Multiple ≡ solved_as 0 found
+pub verdict_2 : (found : ℕ) → (found ≡ 0 → ⊥) → (found ≡ 1 → ⊥) → Multiple ≡ verdict_on found
 verdict_2 zero a b = absurd (a refl)
 verdict_2 (suc zero) a b = absurd (b refl)
 verdict_2 (suc (suc k)) a b = refl
@@ -110,27 +115,23 @@ module _ {p : Puzzle} {ms : List ℕ} {len : ℕ} (a : SolveAsk p ms len) where
 
 -- ---- the whole call
 
-pub solve_refused : {u : Unit} {p : Puzzle} {ms cells : List ℕ} {k : ℕ} → k ≡ refusal (solve_checks u p ms (length cells)) → (k ≡ 0 → ⊥) →
-    (Refused k ≡ solve_answer u p ms (length cells)) × SolveWritten u p ms cells cells
-solve_refused {u} {p} {ms} {cells} {k} d z =
-    (go (refusal (solve_checks u p ms (length cells))) d, record { untouched = λ _. refl; written = λ e. absurd (z (d ∙ e)) })
-  where
-    go : (m : ℕ) → k ≡ m → Refused k ≡ solved_as m (number p ms)
-    go zero e = absurd (z e)
-    go (suc m) e = ap Refused e
+pub solve_refused : {u : Unit} {p : Puzzle} {ms cells : List ℕ} (k : Refusal) → Err k ≡ checked (solve_checks u p ms (length cells)) →
+    (Err k ≡ solve_answer u p ms (length cells)) × SolveWritten u p ms cells cells
+unfolding refusal
+solve_refused k d = (rw (← d), record { untouched = λ _. refl; written = λ e. absurd (number_positive k (ap number_of d ∙ e)) })
 
 -- a count to the cap 2 tells the verdict
-pub solved_capped : (k : ℕ) → solved_as 0 (min 2 k) ≡ solved_as 0 k
-solved_capped zero = refl
-solved_capped (suc zero) = refl
-solved_capped (suc (suc k)) = let e : min 2 (suc (suc k)) ≡ 2 = omega arith in rw e
+pub verdict_capped : (k : ℕ) → verdict_on (min 2 k) ≡ verdict_on k
+verdict_capped zero = refl
+verdict_capped (suc zero) = refl
+verdict_capped (suc (suc k)) = let e : min 2 (suc (suc k)) ≡ 2 = omega arith in rw e
 
-pub solve_done : {u : Unit} {p : Puzzle} {ms cells cells' : List ℕ} {k r : ℕ} {answer : Solved} → k ≡ refusal (solve_checks u p ms (length cells)) → k ≡ 0 → Found p ms r cells cells' →
-    answer ≡ solved_as 0 r → (answer ≡ solve_answer u p ms (length cells)) × SolveWritten u p ms cells cells'
+pub solve_done : {u : Unit} {p : Puzzle} {ms cells cells' : List ℕ} {r : ℕ} (v : Verdict) → Ok tt ≡ checked (solve_checks u p ms (length cells)) → Found p ms r cells cells' →
+    v ≡ verdict_on r → (Ok v ≡ solve_answer u p ms (length cells)) × SolveWritten u p ms cells cells'
 unfolding capped
-solve_done {u} {p} {ms} {cells} {cells'} {k} {r} d z f e =
-    let q : refusal (solve_checks u p ms (length cells)) ≡ 0 = sym d ∙ z in
-    let c = f.count in (
-      e ∙ ap (solved_as 0) c ∙ solved_capped (number p ms) ∙ ap (λ y. solved_as y (number p ms)) (sym q),
-      record { untouched = λ u. ⊎_elim (λ x. absurd (x q)) (λ x. f.untouched (omega arith)) u; written = λ _ h. f.written (omega arith) },
+solve_done {u} {p} {ms} {cells} {cells'} {r} v d f e =
+    let q = passed_number (solve_checks u p ms (length cells)) (sym d) in
+    let c : v ≡ verdict_on (number p ms) = e ∙ ap verdict_on f.count ∙ verdict_capped (number p ms) in (
+      rw (← d, c),
+      record { untouched = λ u. ⊎_elim (λ x. absurd (x q)) (λ x. f.untouched (omega (arith, f.count))) u; written = λ _ h. f.written (omega (arith, f.count)) },
     )

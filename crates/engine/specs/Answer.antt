@@ -1,28 +1,20 @@
 -- The answers of Count and of Solve, by their cases, and the grid that Solve writes. Assumes nothing.
-use Rattle.std.specs.Prelude.{ℕ, zero, suc, ◌*◌, ◌<◌, ◌≡◌, ◌⊎◌, List, length}
+use Rattle.std.specs.Prelude.{ℕ, zero, suc, ◌*◌, ◌<◌, ◌≡◌, ◌⊎◌, List, length, Result}
+use Rattle.refusal.specs.declared.Refusal.{Refusal}
 use Rattle.units.specs.declared.Unit.{Unit}
 use Rattle.rules.specs.Grid.{Puzzle}
-use Rattle.rules.specs.Check.{refusal, count_checks, solve_checks}
+use Rattle.rules.specs.Check.{checked, answered, refusal, count_checks, solve_checks}
 use Rattle.rules.specs.CheckParts.{mark_checks}
 use Rattle.rules.specs.Number.{Solution, number, capped}
 use Rattle.puzzle.specs.Accepted.{AcceptedPuzzle}
-use Rattle.engine.specs.declared.Counted.{Counted}
-use Rattle.engine.specs.declared.Counted.TheVariants.{Count}
-use Rattle.engine.specs.declared.Counted.TheVariants as counts
-use Rattle.engine.specs.declared.Solved.{Solved}
-use Rattle.engine.specs.declared.Solved.TheVariants.{Unsolvable, Unique, Multiple}
-use Rattle.engine.specs.declared.Solved.TheVariants as verdicts
+use Rattle.engine.specs.declared.Verdict.{Verdict}
+use Rattle.engine.specs.declared.Verdict.TheVariants.{Unsolvable, Unique, Multiple}
 
 -- ---- Count
 
--- The answer of a refusal number and a count: 0 is not refused.
-abbrev pub counted : ℕ → ℕ → Counted
-counted (suc k) c = counts.Refused (suc k)
-counted zero c = Count c
-
--- The answer of Count in a unit: the number that the puzzle or its marks are refused by, else the count under the cap.
-abbrev pub count_answer : Unit → Puzzle → List ℕ → ℕ → Counted
-count_answer u p ms cap = counted (refusal (count_checks u p ms)) (capped cap p ms)
+-- The answer of Count in a unit: what the puzzle or its marks are refused by, else the count under the cap.
+abbrev pub count_answer : Unit → Puzzle → List ℕ → ℕ → Result ℕ Refusal
+count_answer u p ms cap = answered (checked (count_checks u p ms)) (capped cap p ms)
 
 -- A puzzle and marks that are not refused, whatever the unit.
 pub record CountAsk (p : Puzzle) (ms : List ℕ) : Type 0 where
@@ -31,16 +23,15 @@ pub record CountAsk (p : Puzzle) (ms : List ℕ) : Type 0 where
 
 -- ---- Solve
 
--- The answer of a refusal number and a number of grids: 0 is not refused, and the verdict is that there is none, one, or more.
-abbrev pub solved_as : ℕ → ℕ → Solved
-solved_as (suc k) grids = verdicts.Refused (suc k)
-solved_as zero zero = Unsolvable
-solved_as zero (suc zero) = Unique
-solved_as zero (suc (suc more)) = Multiple
+-- The verdict on a number of grids: that there is none, one, or more.
+abbrev pub verdict_on : ℕ → Verdict
+verdict_on zero = Unsolvable
+verdict_on (suc zero) = Unique
+verdict_on (suc (suc more)) = Multiple
 
--- The answer of Solve in a unit: the number that the puzzle, its marks or a cell buffer of this length are refused by, else the verdict on the number of grids.
-abbrev pub solve_answer : Unit → Puzzle → List ℕ → ℕ → Solved
-solve_answer u p ms len = solved_as (refusal (solve_checks u p ms len)) (number p ms)
+-- The answer of Solve in a unit: what the puzzle, its marks or a cell buffer of this length are refused by, else the verdict on the number of grids.
+abbrev pub solve_answer : Unit → Puzzle → List ℕ → ℕ → Result Verdict Refusal
+solve_answer u p ms len = answered (checked (solve_checks u p ms len)) (verdict_on (number p ms))
 
 -- What Solve writes in a unit: one of the grids, which of them is left open; on a refusal, and if there is none, the cells are as they were.
 pub record SolveWritten (u : Unit) (p : Puzzle) (ms cells cells' : List ℕ) : Type 0 where

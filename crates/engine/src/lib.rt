@@ -3,41 +3,33 @@
 
 ghost use Rattle.std.specs.Prelude.{◌≡◌, length};
 ghost use Rattle.rules.specs.Mark.{marks_of};
-ghost use Rattle.rules.specs.Check.{refusal, count_checks, solve_checks};
+ghost use Rattle.rules.specs.Check.{checked, count_checks, solve_checks};
 ghost use Rattle.rules.specs.Number.{capped};
 ghost use Rattle.rules.specs.Grid.{puzzle};
-ghost use Rattle.engine.specs.Answer.{count_answer, CountAsk, solved_as, solve_answer, SolveAsk, Found, SolveWritten};
+ghost use Rattle.engine.specs.Answer.{count_answer, CountAsk, verdict_on, solve_answer, SolveAsk, Found, SolveWritten};
 
 use backtrack::search;
-use mark_list::list_refusal;
+use mark_list::check_list;
 use prepare::prepare;
-use puzzle::puzzle_refusal;
+use puzzle::check_puzzle;
 use queue_state::Slab;
+use refusal::Refusal;
 use units::Unit;
 
-#[derive(Clone, Copy)]
-pub enum Counted {
-    Refused(u8),
-    Count(u64),
-}
-
-#[derive(Clone, Copy)]
-pub enum Solved {
-    Refused(u8),
+// Whether a puzzle and its marks have no grid, one, or more.
+#[derive(Clone, Copy, Debug, PartialEq, Eq)]
+pub enum Verdict {
     Unsolvable,
     Unique,
     Multiple,
 }
 
-// The number that a puzzle or its marks are refused by, or 0.
-fn count_refusal(unit: Unit, n: usize, rows: &[u8], columns: &[u8], marks: &[u8]) -> u8
-    ensures { result ≡ refusal (count_checks unit (puzzle n rows.now columns.now) (marks_of marks.now)) }
+// The checks of a puzzle and its marks.
+fn check_count(unit: Unit, n: usize, rows: &[u8], columns: &[u8], marks: &[u8]) -> Result<(), Refusal>
+    ensures { result ≡ checked (count_checks unit (puzzle n rows.now columns.now) (marks_of marks.now)) }
 {
-    let k = puzzle_refusal(unit, n, rows, columns);
-    if k != 0 {
-        return k;
-    }
-    list_refusal(unit, n, marks)
+    check_puzzle(unit, n, rows, columns)?;
+    check_list(unit, n, marks)
 }
 
 // The count of what is not refused.
@@ -62,32 +54,30 @@ pub fn count(
     columns: &[u8],
     marks: &[u8],
     cap: u64,
-) -> Counted
+) -> Result<u64, Refusal>
     ensures { result ≡ count_answer unit (puzzle size rows.now columns.now) (marks_of marks.now) cap }
 {
-    let k = count_refusal(unit, size, rows, columns, marks);
-    if k != 0 {
-        return Counted::Refused(k);
-    }
-    Counted::Count(count_grids(size, rows, columns, marks, cap))
+    check_count(unit, size, rows, columns, marks)?;
+    Ok(count_grids(size, rows, columns, marks, cap))
 }
 
-// The number that a puzzle, its marks or a cell buffer are refused by, or 0.
-pub fn solve_refusal(
+// The checks of a puzzle, its marks and a cell buffer.
+pub fn check_solve(
     unit: Unit,
     n: usize,
     rows: &[u8],
     columns: &[u8],
     marks: &[u8],
     len: usize,
-) -> u8
-    ensures { result ≡ refusal (solve_checks unit (puzzle n rows.now columns.now) (marks_of marks.now) len) }
+) -> Result<(), Refusal>
+    ensures { result ≡ checked (solve_checks unit (puzzle n rows.now columns.now) (marks_of marks.now) len) }
 {
-    let k = count_refusal(unit, n, rows, columns, marks);
-    if k != 0 {
-        return k;
+    check_count(unit, n, rows, columns, marks)?;
+    if len == n * n {
+        Ok(())
+    } else {
+        Err(Refusal::CellsLength)
     }
-    if len == n * n { 0 } else { 7 }
 }
 
 // The count of what is not refused, up to two; the first grid is written.
@@ -103,16 +93,14 @@ fn solve_grids(n: usize, rows: &[u8], columns: &[u8], marks: &[u8], cells: &mut 
     search(&mut st, &words, n, 2, true, cells)
 }
 
-fn verdict(found: u64) -> Solved
-    ensures { result ≡ solved_as 0 found }
+fn verdict(found: u64) -> Verdict
+    ensures { result ≡ verdict_on found }
 {
-    if found == 0 {
-        return Solved::Unsolvable;
+    match found {
+        0 => Verdict::Unsolvable,
+        1 => Verdict::Unique,
+        _ => Verdict::Multiple,
     }
-    if found == 1 {
-        return Solved::Unique;
-    }
-    Solved::Multiple
 }
 
 // The verdict, and one of the grids if there is one.
@@ -123,13 +111,10 @@ pub fn solve(
     columns: &[u8],
     marks: &[u8],
     cells: &mut [u8],
-) -> Solved
+) -> Result<Verdict, Refusal>
     ensures { (result ≡ solve_answer unit (puzzle size rows.now columns.now) (marks_of marks.now) (length cells.old))
         × SolveWritten unit (puzzle size rows.now columns.now) (marks_of marks.now) cells.old cells.new }
 {
-    let k = solve_refusal(unit, size, rows, columns, marks, cells.len());
-    if k != 0 {
-        return Solved::Refused(k);
-    }
-    verdict(solve_grids(size, rows, columns, marks, cells))
+    check_solve(unit, size, rows, columns, marks, cells.len())?;
+    Ok(verdict(solve_grids(size, rows, columns, marks, cells)))
 }

@@ -162,7 +162,7 @@ fn list_lines(st: &mut [u16], words: &[u32], n: usize, from: usize, first: usize
 {
     let mut i = 0;
     while i < n {
-        list_line(st, words, n, from + i, first, puzzle::wide(targets[i]));
+        list_line(st, words, n, from + i, first, usize::from(targets[i]));
         i += 1;
     }
 }

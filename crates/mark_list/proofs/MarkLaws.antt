@@ -18,7 +18,7 @@ use Rattle.units.specs.Limits.{takes_list}
 use Rattle.rules.specs.Mark.{mark_row, mark_column, mark_value, marks_of}
 use Rattle.rules.specs.Check.{checked, named, check_mark}
 use Rattle.rules.specs.CheckParts.{mark_checks, list_checks}
-use Rattle.rules.proofs.CheckLaws.{checked_skip, checked_stop}
+use Rattle.rules.proofs.CheckLaws.{lacks, numbered, checked_skip, checked_stop}
 use Rattle.mark_list.specs.declared.Mark.{Mark}
 use Rattle.mark_list.specs.Unpacked.{unpacked, word_at}
 
@@ -100,6 +100,10 @@ module _ (n w : ℕ) (m : Mark) (u : m ≡ unpacked w) where
 pub mark_4 : (n w : ℕ) → (w % 8 ≡ 0 → ⊥) → Err MarkSpare ≡ checked (check_mark n w)
 unfolding checked
 mark_4 n w h = rw (ne_eqb (w % 8) 0 h)
+
+pub mark_numbered : (n m : ℕ) → numbered (check_mark n m) ≡ true
+unfolding lacks
+mark_numbered n m = refl
 
 -- ---- the checks of a list
 

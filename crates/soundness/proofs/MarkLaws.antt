@@ -15,6 +15,7 @@ use Rattle.rules.specs.Grid.{digits, Puzzle, across, down}
 use Rattle.rules.specs.Mark.{rejects, mark_row, mark_column, mark_value, has, keeps_mark}
 use Rattle.rules.specs.Short.{keeps_marks}
 use Rattle.rules.specs.Number.{solves, number, Solution}
+use Rattle.refusal.specs.declared.Refusal.TheVariants.{MarkSpare, MarkPlace, MarkValue}
 use Rattle.rules.specs.Check.{refusal, named, check_mark}
 use Rattle.rules.specs.CheckParts.{mark_checks}
 use Rattle.rules.proofs.GridLaws.{way_solution}
@@ -58,9 +59,9 @@ pub accepted : (n : ℕ) (ms : List ℕ) → refusal (mark_checks n ms) ≡ 0 �
 unfolding join
 accepted n [] e m k = absurd (Memᴰ.not-nil k)
 accepted n (x ∷ ms) e m (Memᴰ.head q) =
-    let a = refusal_none 3 _ _ (refusal_none_left (check_mark n x) (mark_checks n ms) e) in
-    let b = refusal_none 4 (ltb (mark_row x) n && ltb (mark_column x) n) _ a.1 in
-    let c = refusal_none 5 (named n (mark_value x)) [] b.1 in
+    let a = refusal_none MarkSpare _ _ (refusal_none_left (check_mark n x) (mark_checks n ms) e) in
+    let b = refusal_none MarkPlace (ltb (mark_row x) n && ltb (mark_column x) n) _ a.1 in
+    let c = refusal_none MarkValue (named n (mark_value x)) [] b.1 in
     subst (AcceptedMark n) (sym q) (record {
       row_in = ltb-true (mark_row x) n (and_left _ _ b.0);
       column_in = ltb-true (mark_column x) n (and_right (ltb (mark_row x) n) _ b.0);

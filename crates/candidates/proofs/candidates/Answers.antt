@@ -1,17 +1,21 @@
 -- `candidates::candidates` meets its contract. Assumes nothing.
-use mathlib.Core.Path.{sym, ◌∙◌}
+use mathlib.Core.Path.{sym}
+use Rattle.std.proofs.lemmas.Result.{err_from_is_err_and}
+use Rattle.rules.proofs.CheckLaws.{passed_number}
 use Rattle.engine.proofs.SolveLaws.{solve_asked}
 use Rattle.candidates.proofs.RemainingLaws.{table_refused, table_written, table_none}
 use Rattle.candidates.proofs.candidates.Goals as goal
 
-pub returns-then-k-ne0 : goal.returns-then-k-ne0
-returns-then-k-ne0 c = table_refused c.solve_refusal-k.ensures c.if-k-ne0.true
+pub returns-in_err-check_solve : goal.returns-in_err-check_solve
+returns-in_err-check_solve c =
+    let p = err_from_is_err_and c.from_residual.result c.from_residual.ensures.1 in
+    rw (p.1, p.2) (table_refused _ c.in_err-check_solve.ensures)
 
 pub write_table-requires : goal.write_table-requires
-write_table-requires c = solve_asked _ _ _ _ (sym c.solve_refusal-k.ensures ∙ c.if-k-ne0.false)
+write_table-requires c = solve_asked c.args.unit _ _ _ (passed_number _ (sym c.in_ok-check_solve.ensures))
 
 pub returns-then-write_table : goal.returns-then-write_table
-returns-then-write_table c = table_written c.solve_refusal-k.ensures c.if-k-ne0.false c.write_table.ensures c.if-write_table.true
+returns-then-write_table c = table_written c.in_ok-check_solve.ensures c.write_table.ensures c.if-write_table.true
 
 pub returns-else-write_table : goal.returns-else-write_table
-returns-else-write_table c = table_none c.solve_refusal-k.ensures c.if-k-ne0.false c.write_table.ensures c.if-write_table.false
+returns-else-write_table c = table_none c.in_ok-check_solve.ensures c.write_table.ensures c.if-write_table.false

@@ -1,13 +1,17 @@
 -- `engine::count` meets its contract. Assumes nothing.
-use mathlib.Core.Path.{sym, ◌∙◌}
-use Rattle.engine.proofs.CountLaws.{answer_refused, answer_count, count_asked}
+use mathlib.Core.Path.{sym}
+use Rattle.std.proofs.lemmas.Result.{err_from_is_err_and}
+use Rattle.rules.proofs.CheckLaws.{passed_number}
+use Rattle.engine.proofs.CountLaws.{count_refused, count_done, count_asked}
 use Rattle.engine.proofs.count.Goals as goal
 
-pub returns-then-k-ne0 : goal.returns-then-k-ne0
-returns-then-k-ne0 c = answer_refused _ _ _ c.count_refusal-k.ensures c.if-k-ne0.true
+pub returns-in_err-check_count : goal.returns-in_err-check_count
+returns-in_err-check_count c =
+    let p = err_from_is_err_and c.from_residual.result c.from_residual.ensures.1 in
+    rw (p.1, p.2) (count_refused _ _ _ _ _ c.in_err-check_count.ensures)
 
 pub count_grids-requires : goal.count_grids-requires
-count_grids-requires c = count_asked _ _ _ (sym c.count_refusal-k.ensures ∙ c.if-k-ne0.false)
+count_grids-requires c = count_asked c.args.unit _ _ (passed_number _ (sym c.in_ok-check_count.ensures))
 
 pub returns : goal.returns
-returns c = answer_count _ _ _ _ c.count_refusal-k.ensures c.if-k-ne0.false c.count_grids.ensures
+returns c = count_done _ _ _ _ _ c.in_ok-check_count.ensures c.count_grids.ensures

@@ -1,13 +1,17 @@
 -- `engine::solve` meets its contract. Assumes nothing.
-use mathlib.Core.Path.{sym, ◌∙◌}
+use mathlib.Core.Path.{sym}
+use Rattle.std.proofs.lemmas.Result.{err_from_is_err_and}
+use Rattle.rules.proofs.CheckLaws.{passed_number}
 use Rattle.engine.proofs.SolveLaws.{solve_refused, solve_done, solve_asked}
 use Rattle.engine.proofs.solve.Goals as goal
 
-pub returns-then-k-ne0 : goal.returns-then-k-ne0
-returns-then-k-ne0 c = solve_refused c.solve_refusal-k.ensures c.if-k-ne0.true
+pub returns-in_err-check_solve : goal.returns-in_err-check_solve
+returns-in_err-check_solve c =
+    let p = err_from_is_err_and c.from_residual.result c.from_residual.ensures.1 in
+    rw (p.1, p.2) (solve_refused _ c.in_err-check_solve.ensures)
 
 pub solve_grids-requires : goal.solve_grids-requires
-solve_grids-requires c = solve_asked _ _ _ _ (sym c.solve_refusal-k.ensures ∙ c.if-k-ne0.false)
+solve_grids-requires c = solve_asked c.args.unit _ _ _ (passed_number _ (sym c.in_ok-check_solve.ensures))
 
 pub returns : goal.returns
-returns c = solve_done c.solve_refusal-k.ensures c.if-k-ne0.false c.solve_grids.ensures c.verdict.ensures
+returns c = solve_done _ c.in_ok-check_solve.ensures c.solve_grids.ensures c.verdict.ensures
