@@ -6,7 +6,7 @@
 ghost use Rattle.std.specs.Prelude.{◌≡◌, ◌-◌, ◌<◌, get_or, set};
 ghost use Rattle.queue_state.specs.Slab.{Sized, Struck, One, Masked, StrikeAsk, CounterAsk};
 
-use value::wide;
+use value::Bits;
 
 #[derive(Clone, Copy)]
 pub struct Slab {
@@ -47,7 +47,7 @@ fn strike(st: &mut [u16], cell: usize, v: usize)
     requires { StrikeAsk st.old cell v }
     ensures { Struck st.old st.new (One cell v) }
 {
-    let t = wide(st[Slab::TAIL]);
+    let t = usize::from(st[Slab::TAIL]);
     st[cell] = st[cell] - (1u16 << v);
     st[Slab::QUEUE + t] = (cell * 16 + v) as u16;
     st[Slab::TAIL] = (t + 1) as u16;
@@ -68,11 +68,8 @@ pub fn clear_mask(st: &mut [u16], cell: usize, mask: u16)
     requires { Sized st.old × (cell < 81) }
     ensures { Struck st.old st.new (Masked cell mask) }
 {
-    let mut rest = st[cell] & mask;
-    while rest != 0 {
-        let v = u16::trailing_zeros(rest) as usize;
+    for v in (Bits { rest: st[cell] & mask }) {
         strike(st, cell, v);
-        rest = rest - (1u16 << v);
     }
 }
 

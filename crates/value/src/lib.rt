@@ -2,12 +2,13 @@
 // Inside the engine a value is its own candidate bit: digit d is bit d, and the four blacks are bits 8 to 11 at every size.
 #![tactic(auto)]
 
-ghost use Rattle.std.specs.Prelude.{◌≡◌};
+ghost use Rattle.std.specs.Prelude.{◌≡◌, ◌+◌, ◌*◌, ◌<◌, MatchOption};
+ghost use Rattle.std.specs.Iterator.{at_most};
 ghost use Rattle.rules.specs.Grid.{digits};
 ghost use Rattle.rules.specs.Check.{named};
 ghost use Rattle.rules.specs.Size.{Size};
 ghost use Rattle.table.specs.Table.{every_value};
-ghost use Rattle.value.specs.Mask.{mask_of};
+ghost use Rattle.value.specs.Mask.{mask_of, LowestOf};
 
 // A number of 16 bits as a place, a length or a value: asks no proof that it fits.
 pub fn wide(x: u16) -> usize
@@ -54,16 +55,7 @@ impl Value {
         ensures { result ≡ named n self.code }
     {
         let v = self.code;
-        if v < 1 {
-            return false;
-        }
-        if v <= n - 2 {
-            return true;
-        }
-        if v < Value::BLACK1_ROW {
-            return false;
-        }
-        v <= Value::BLACK2_COL
+        (1..=n - 2).contains(&v) || (Value::BLACK1_ROW..=Value::BLACK2_COL).contains(&v)
     }
 
     // The digits.
@@ -80,5 +72,46 @@ impl Value {
         ensures { result ≡ mask_of (every_value n) }
     {
         Value::all_digits(n) + Value::ROW_BLACKS + Value::COL_BLACKS
+    }
+}
+
+// A value in the cell of a row and a column.
+#[derive(Clone, Copy, Debug, PartialEq, Eq)]
+pub struct Candidate {
+    pub row: usize,
+    pub column: usize,
+    pub value: usize,
+}
+
+impl Candidate {
+    // The place of its cell.
+    pub fn cell(self) -> usize
+        requires { (self.row < 9) × (self.column < 9) }
+        ensures { result ≡ self.row * 9 + self.column }
+    {
+        self.row * 9 + self.column
+    }
+}
+
+// The numbers of the bits of a mask, the lowest first.
+#[derive(Clone, Debug, Drop)]
+pub struct Bits {
+    pub rest: u16,
+}
+
+impl Iterator for Bits {
+    type Item = usize;
+
+    ghost next_gives = { λ s r t. MatchOption r ((s.rest ≡ 0) × (t.rest ≡ 0)) (λ v. LowestOf s.rest v t.rest) };
+
+    ghost remaining = { λ s. at_most s.rest };
+
+    fn next(&mut self) -> Option<usize> {
+        if self.rest == 0 {
+            return None;
+        }
+        let v = self.rest.trailing_zeros();
+        self.rest -= 1 << v;
+        Some(v as usize)
     }
 }

@@ -5,11 +5,11 @@ use Rattle.queue_state.proofs.SlabLaws.{strike_enough, strike_room, strike_done}
 use Rattle.queue_state.proofs.strike.Goals as goal
 
 pub overflow_sub-st : goal.overflow_sub-st
-overflow_sub-st c = strike_enough _ _ _ _ c.requires c.wide-t.ensures
+overflow_sub-st c = strike_enough _ _ _ _ c.requires c.from-t.ensures
 
 pub bounds-st-t : goal.bounds-st-t
 bounds-st-t c =
-    simp length-set (omega (arith, strike_room _ _ _ _ c.requires c.wide-t.ensures, c.requires.sized.size))
+    simp length-set (omega (arith, strike_room _ _ _ _ c.requires c.from-t.ensures, c.requires.sized.size))
 
 pub returns : goal.returns
-returns c = strike_done _ _ _ _ c.requires c.wide-t.ensures
+returns c = strike_done _ _ _ _ c.requires c.from-t.ensures
