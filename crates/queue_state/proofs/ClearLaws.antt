@@ -1,5 +1,5 @@
 -- Clearing a mask, bit by bit. Assumes nothing.
-use Prim.Native.Nat.{ℕ, ◌-◌, ◌*◌, ◌%◌, ◌^◌, ◌≤◌, ◌<◌}
+use Prim.Native.Nat.{ℕ, ◌<◌}
 use mathlib.Core.Path.{◌≡◌, sym, ap, ◌∙◌}
 use mathlib.Core.Logic.{◌⊎◌, inl, inr, ⊎_elim}
 use mathlib.Core.List.{List}
@@ -7,10 +7,8 @@ use native.Mathlib.Omega.{arith}
 use native.Mathlib.Decide.{ℕ_discrete}
 use lib.ListN.{get_or}
 use lib.Bits.{bit_and}
-use lib.Count.{count_trailing_zeros}
-use lib.Pow.{pow_pos}
 use Rattle.bits.specs.Bit.{bit}
-use Rattle.bits.proofs.BitLaws.{bit_lt, bit_and_lem, bit_none, bit_le, bit_taken, bit_kept, shl_one, Lowest, trailing_lowest}
+use Rattle.bits.proofs.BitLaws.{bit_lt, bit_and_lem, bit_none}
 use Rattle.value.specs.Mask.{LowestOf}
 use Rattle.value.proofs.LowestLaws.{rest_without, rest_keeps}
 use Rattle.queue_state.specs.Slab.{cand, Sized, Struck, One, Masked, StrikeAsk}

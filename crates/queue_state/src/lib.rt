@@ -68,7 +68,8 @@ pub fn clear_mask(st: &mut [u16], cell: usize, mask: u16)
     requires { Sized st.old × (cell < 81) }
     ensures { Struck st.old st.new (Masked cell mask) }
 {
-    for v in (Bits { rest: st[cell] & mask }) {
+    let rest = st[cell] & mask;
+    for v in (Bits { rest }) {
         strike(st, cell, v);
     }
 }
