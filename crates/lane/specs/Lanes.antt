@@ -1,5 +1,5 @@
 -- The rows and the columns as the code walks them, nine cells to a row. Assumes nothing.
-use Rattle.std.specs.Prelude.{ℕ, ◌+◌, ◌*◌}
+use Rattle.std.specs.Prelude.{ℕ, ◌+◌, ◌*◌, Bool, ◌&&◌, ◌||◌, leb, ltb}
 use Rattle.rules.specs.Mark.{left_black, upper_black}
 use Rattle.lane.specs.declared.Lane.{Lane}
 
@@ -10,3 +10,11 @@ row_lane r = record { number = r; start = r * 9; stride = 1; first = left_black 
 -- Column c: its cells are a row apart.
 abbrev pub column_lane : ℕ → Lane
 column_lane c = record { number = 9 + c; start = c; stride = 9; first = upper_black }
+
+-- One of a line's own blacks.
+abbrev pub lane_black : Lane → ℕ → Bool
+lane_black lane v = leb lane.first v && ltb v (lane.first + 2)
+
+-- A value of a line's half of a cell: a digit, or one of its own blacks.
+abbrev pub lane_value : Lane → ℕ → Bool
+lane_value lane v = ltb v 8 || lane_black lane v

@@ -1,8 +1,8 @@
 // A line as the code walks it, so that rows and columns are one case.
 #![tactic(auto)]
 
-ghost use Rattle.std.specs.Prelude.{◌≡◌, ◌<◌};
-ghost use Rattle.lane.specs.Lanes.{row_lane, column_lane};
+ghost use Rattle.std.specs.Prelude.{◌≡◌, ◌+◌, ◌*◌, ◌<◌};
+ghost use Rattle.lane.specs.Lanes.{row_lane, column_lane, lane_black, lane_value};
 
 use value::Value;
 
@@ -38,5 +38,27 @@ impl Lane {
             stride: 9,
             first: Value::BLACK1_COL,
         }
+    }
+
+    // The cell at a place of it.
+    pub fn cell(self, place: usize) -> usize
+        requires { self.start + place * self.stride < 81 }
+        ensures { result ≡ self.start + place * self.stride }
+    {
+        self.start + place * self.stride
+    }
+
+    // Its own blacks, of the four of a cell.
+    pub fn has_black(self, v: usize) -> bool
+        ensures { result ≡ lane_black self v }
+    {
+        self.first <= v && v - self.first < 2
+    }
+
+    // The values of its half of a cell: the digits and its own blacks.
+    pub fn has(self, v: usize) -> bool
+        ensures { result ≡ lane_value self v }
+    {
+        v < Value::BLACK1_ROW || self.has_black(v)
     }
 }

@@ -1,6 +1,6 @@
 -- Striking a value along a line. Assumes nothing.
 use Prim.Native.Nat.{ℕ, ◌+◌, ◌*◌, ◌/◌, ◌%◌, ◌≤◌, ◌<◌}
-use mathlib.Core.Path.{◌≡◌, ap, ◌∙◌, subst}
+use mathlib.Core.Path.{◌≡◌, ap, ◌∙◌}
 use mathlib.Core.Logic.{◌⊎◌, inl, inr, ⊎_elim}
 use mathlib.Core.List.{List}
 use native.Mathlib.Omega.{arith}
@@ -8,12 +8,8 @@ use native.Mathlib.Decide.{ℕ_discrete}
 use Rattle.lane.specs.declared.Lane.{Lane}
 use Rattle.lane.specs.Lanes.{row_lane, column_lane}
 use Rattle.queue_state.specs.Slab.{Struck, One}
-use Rattle.queue_state.proofs.StruckLaws.{grown_sized, struck_none, struck_both, struck_as}
-use Rattle.set_cell.specs.Run.{Run, Sides, Inside, RunAsk, SidesAsk, Running}
-
-pub running_start : (l : List ℕ) (lane : Lane) (a b v : ℕ) → a ≤ b → Running l l lane a a b v
-running_start l lane a b v h =
-    record { low = omega arith; high = h; struck = struck_none l _ (λ x w n q. absurd (omega (arith, q.low, q.high))) }
+use Rattle.queue_state.proofs.StruckLaws.{struck_both, struck_as}
+use Rattle.set_cell.specs.Run.{Run, Inside, Running}
 
 pub running_next : {l₀ l l' : List ℕ} {lane : Lane} {a p b v : ℕ} →
     Running l₀ l lane a p b v → p < b → Struck l l' (One (lane.start + p * lane.stride) v) → Running l₀ l' lane a (p + 1) b v
@@ -32,31 +28,6 @@ running_next {lane = lane} {a = a} {p = p} {v = v} g h s =
     one : (x w : ℕ) (q : Run lane a (p + 1) v x w) → Dec (q.place ≡ p) → Run lane a p v x w ⊎ ((x ≡ lane.start + p * lane.stride) × (w ≡ v))
     one x w q (yes e) = inr (q.there ∙ ap (λ y. lane.start + y * lane.stride) e, q.value)
     one x w q (no e) = inl (record { place = q.place; low = q.low; high = omega (arith, q.high); there = q.there; value = q.value })
-
-pub running_end : {l₀ l : List ℕ} {lane : Lane} {a p b v : ℕ} → Running l₀ l lane a p b v → b ≤ p → Struck l₀ l (Run lane a b v)
-running_end g h =
-    struck_as g.struck
-    (λ x w n q. record { place = q.place; low = q.low; high = omega (arith, q.high, g.high); there = q.there; value = q.value })
-    (λ x w n q. inl (record { place = q.place; low = q.low; high = omega (arith, q.high); there = q.there; value = q.value }))
-
--- the two runs of a line
-pub sides_before : {l : List ℕ} {n : ℕ} {lane : Lane} {i u v : ℕ} → SidesAsk l n lane i u v → RunAsk l lane 0 i u
-sides_before a =
-    record {
-      sized = a.sized;
-      value = a.before;
-      order = omega arith;
-      cells = record { inside = λ p h. a.cells.inside p (omega (arith, a.place)) };
-    }
-
-pub sides_behind : {l l' : List ℕ} {n : ℕ} {lane : Lane} {i u v : ℕ} {Hit : ℕ → ℕ → Type 0} →
-    SidesAsk l n lane i u v → Struck l l' Hit → RunAsk l' lane (i + 1) n v
-sides_behind a s =
-    record { sized = grown_sized s.grown a.sized; value = a.behind; order = omega (arith, a.place); cells = a.cells }
-
--- the sides are those of the lane
-pub sides_at : {l l' : List ℕ} {n i u v : ℕ} {lane other : Lane} → lane ≡ other → Struck l l' (Sides lane n i u v) → Struck l l' (Sides other n i u v)
-sides_at {l} {l'} {n} {i} {u} {v} e s = subst (λ k. Struck l l' (Sides k n i u v)) e s
 
 -- a row and a column as lines: where a run's candidates are
 module _ {s a b u x w : ℕ} where

@@ -9,9 +9,8 @@ use native.Mathlib.Decide.{ℕ_discrete, dec_lt}
 use borrow.Author.Tests.{eqb-true, eq-eqb, ne_eqb}
 use Rattle.bits.specs.Bit.{bit}
 use Rattle.table.specs.Steps.{strikes, taken}
-use Rattle.table.specs.Table.{in_column, in_row}
 use Rattle.lane.specs.declared.Lane.{Lane}
-use Rattle.lane.specs.Lanes.{row_lane, column_lane}
+use Rattle.lane.specs.Lanes.{row_lane, column_lane, lane_value}
 use Rattle.queue_state.specs.Slab.{cand, table_in, Grown, Struck, Masked}
 use Rattle.queue_state.proofs.SlabLaws.{cand_lt}
 use Rattle.queue_state.proofs.StruckLaws.{struck_none, struck_both, struck_as}
@@ -19,11 +18,10 @@ use Rattle.queue_state.proofs.ReadyLaws.{ready_grown, ready_valid}
 use Rattle.queue_state.specs.Ready.{Valid}
 use Rattle.set_cell.proofs.RunLaws.{row_run, run_row, column_run, run_column, row_inside, column_inside}
 use Rattle.set_cell.specs.Run.{Sides, SidesAsk}
-use Rattle.set_cell.specs.Setting.{SetHit, SetAsk, RowOthers, ColumnOthers, BlacksAround, RestOfHalf, Hits, along_row, along_column, in_cell, to_left, to_right, above, below}
-use Rattle.set_cell.proofs.SettingLaws.{hits_strikes, strikes_hits}
+use Rattle.set_cell.specs.Setting.{SetHit, SetAsk, Others, BlacksAround, RestOfHalf, Hits, along_row, along_column, in_cell, to_left, to_right, above, below}
+use Rattle.set_cell.proofs.SettingLaws.{hits_strikes, strikes_hits, row_value, column_value}
 use Rattle.line_laws.proofs.CellValues.{value_range}
 
--- ---- values
 -- ---- what the parts ask
 pub ask_grown : {n r c v : ℕ} {l l' : List ℕ} → Grown l l' → SetAsk n l r c v → SetAsk n l' r c v
 ask_grown g a = record { ready = ready_grown g a.ready; row = a.row; column = a.column; value = a.value }
@@ -49,18 +47,18 @@ module _ {n r c v : ℕ} {l : List ℕ} (a : SetAsk n l r c v) where
 -- ---- the parts together
 module _ {n r c v m : ℕ} {l : List ℕ} (a : SetAsk n l r c v) (f : RestOfHalf v m) where
   Parts : ℕ → ℕ → Type 0
-  Parts x w = ((RowOthers n r c v x w ⊎ ColumnOthers n r c v x w) ⊎ Masked (r * 9 + c) m x w) ⊎ BlacksAround n r c v x w
+  Parts x w = ((Others (row_lane r) n c v x w ⊎ Others (column_lane c) n r v x w) ⊎ Masked (r * 9 + c) m x w) ⊎ BlacksAround n r c v x w
 
   high : n ≤ 9
   high = ask_high a
 
-  part_row : (x w : ℕ) → in_row v ≡ true → Sides (row_lane r) n c v v x w → Hits r c v (x / 9) (x % 9) w
-  part_row x w t (inl q) = let p = row_run q (omega (arith, high, a.column)) in along_row p.0 (omega (arith, p.2)) t q.value
-  part_row x w t (inr q) = let p = row_run q high in along_row p.0 (omega (arith, p.1)) t q.value
+  part_row : (x w : ℕ) → lane_value (row_lane r) v ≡ true → Sides (row_lane r) n c v v x w → Hits r c v (x / 9) (x % 9) w
+  part_row x w t (inl q) = let p = row_run q (omega (arith, high, a.column)) in along_row p.0 (omega (arith, p.2)) (sym (row_value v) ∙ t) q.value
+  part_row x w t (inr q) = let p = row_run q high in along_row p.0 (omega (arith, p.1)) (sym (row_value v) ∙ t) q.value
 
-  part_column : (x w : ℕ) → in_column v ≡ true → Sides (column_lane c) n r v v x w → Hits r c v (x / 9) (x % 9) w
-  part_column x w t (inl q) = let p = column_run q (omega (arith, high, a.column)) in along_column p.0 (omega (arith, p.2)) t q.value
-  part_column x w t (inr q) = let p = column_run q (omega (arith, high, a.column)) in along_column p.0 (omega (arith, p.1)) t q.value
+  part_column : (x w : ℕ) → lane_value (column_lane c) v ≡ true → Sides (column_lane c) n r v v x w → Hits r c v (x / 9) (x % 9) w
+  part_column x w t (inl q) = let p = column_run q (omega (arith, high, a.column)) in along_column p.0 (omega (arith, p.2)) (sym (column_value v (ask_value a).1) ∙ t) q.value
+  part_column x w t (inr q) = let p = column_run q (omega (arith, high, a.column)) in along_column p.0 (omega (arith, p.1)) (sym (column_value v (ask_value a).1) ∙ t) q.value
 
   part_cell : (x w : ℕ) → w < 16 → x ≡ r * 9 + c → bit w m ≡ 1 → Hits r c v (x / 9) (x % 9) w
   part_cell x w h e b =
@@ -86,9 +84,9 @@ module _ {n r c v m : ℕ} {l : List ℕ} (a : SetAsk n l r c v) (f : RestOfHalf
   to_parts : (x w : ℕ) → Valid n x w → Hits r c v (x / 9) (x % 9) w → Parts x w
   unfolding Parts Masked
   to_parts x w k (along_row e d t g) =
-      inl (inl (inl (t, ⊎_elim (λ h. inl (run_row e (omega arith) h g)) (λ h. inr (run_row e h k.column g)) (beside d))))
+      inl (inl (inl (row_value v ∙ t, ⊎_elim (λ h. inl (run_row e (omega arith) h g)) (λ h. inr (run_row e h k.column g)) (beside d))))
   to_parts x w k (along_column e d t g) =
-      inl (inl (inr (t, ⊎_elim (λ h. inl (run_column e (omega arith) h g)) (λ h. inr (run_column e h k.row g)) (beside d))))
+      inl (inl (inr (column_value v (ask_value a).1 ∙ t, ⊎_elim (λ h. inl (run_column e (omega arith) h g)) (λ h. inr (run_column e h k.row g)) (beside d))))
   to_parts x w k (in_cell e d t g) =
       let b = value_range high k.value in inl (inr (omega arith, f.each w b.0 b.1 t g))
   to_parts x w k (to_left h e d g) = inr (h, inl (inl (run_row e (omega arith) d g)))
@@ -106,7 +104,7 @@ module _ {n r c v m : ℕ} {l : List ℕ} (a : SetAsk n l r c v) (f : RestOfHalf
       back x w h t (yes e) = inl (to_parts x w (ready_valid a.ready x w h e) (strikes_hits r c v (x / 9) (x % 9) w t))
       back x w h t (no e) = inr (omega (arith, cand_lt l x w))
 
-  pub set_struck : {l₁ l₂ l₃ l₄ : List ℕ} → Struck l l₁ (RowOthers n r c v) → Struck l₁ l₂ (ColumnOthers n r c v) →
+  pub set_struck : {l₁ l₂ l₃ l₄ : List ℕ} → Struck l l₁ (Others (row_lane r) n c v) → Struck l₁ l₂ (Others (column_lane c) n r v) →
       Struck l₂ l₃ (Masked (r * 9 + c) m) → Struck l₃ l₄ (BlacksAround n r c v) → Struck l l₄ (SetHit r c v)
   unfolding Parts
   set_struck p q s t = struck_parts (struck_both (struck_both (struck_both p q) s) t)
@@ -117,12 +115,6 @@ some_struck e s = struck_as s (λ x w h q. (e, q)) (λ x w h q. inl q.1)
 
 pub none_struck : (l : List ℕ) (H : ℕ → ℕ → Type 0) (t : Type 0) → (t → ⊥) → Struck l l (λ x w. t × H x w)
 none_struck l H t d = struck_none l (λ x w. t × H x w) (λ x w h q. absurd (d q.0))
-
-pub test_struck : {l l' : List ℕ} {H : ℕ → ℕ → Type 0} (b q : Bool) → b ≡ q → b ≡ true → Struck l l' H → Struck l l' (λ x w. (q ≡ true) × H x w)
-test_struck b q e t s = some_struck (sym e ∙ t) s
-
-pub test_none : (l : List ℕ) (H : ℕ → ℕ → Type 0) (b q : Bool) → b ≡ q → b ≡ false → Struck l l (λ x w. (q ≡ true) × H x w)
-test_none l H b q e t = none_struck l H (q ≡ true) (λ u. true≢false (sym u ∙ sym e ∙ t))
 
 -- ---- the table
 pub table_yes : (l : List ℕ) (r c v : ℕ) → table_in l r c v ≡ true → cand l (r * 9 + c) v ≡ 1

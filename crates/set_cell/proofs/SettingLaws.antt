@@ -7,6 +7,7 @@ use native.Mathlib.Omega.{arith}
 use lib.Dec.{eqb, ltb, leb}
 use lib.Pow.{pow_mono}
 use borrow.Author.Tests.{ltb-true, leb-true, eqb-true, eqb-false, not-true, lt-ltb, le-ltb, le-leb, eq-eqb, ne_eqb}
+use Rattle.std.proofs.lemmas.Bool.Decides.{nat_tests}
 use Rattle.tally.specs.Tally.{span, all}
 use Rattle.tally.proofs.TallyLaws.{and_left, and_right, and_both, span_mem, or_split}
 use Rattle.tally.proofs.WayLaws.{all_each}
@@ -171,11 +172,11 @@ module _ (v : ℕ) where
   rest_column h k = rest_is v _ (omega arith) k (rw (shl_one v (omega arith), le-ltb v 8 (omega arith), le-ltb v 10 h))
 
 -- the code's tests and masks
-pub low_in_column : (v : ℕ) → v < 8 → true ≡ in_column v
-low_in_column v h = rw (lt-ltb v 8 h)
+pub row_value : (v : ℕ) → (ltb v 8 || (leb 8 v && ltb v 10)) ≡ in_row v
+row_value v = grind (arith, nat_tests)
 
-pub high_in_column : (v : ℕ) → 8 ≤ v → leb 10 v ≡ in_column v
-high_in_column v h = rw (le-ltb v 8 h)
+pub column_value : (v : ℕ) → v < 12 → (ltb v 8 || (leb 10 v && ltb v 12)) ≡ in_column v
+column_value v h = grind (arith, nat_tests)
 
 pub shl_most : (v k : ℕ) → v ≤ k → k < 16 → 1 * 2 ^ v % 65536 ≤ 2 ^ k
 shl_most v k h m = rw (shl_one v (omega arith)) (pow_mono h)

@@ -3,7 +3,8 @@ use Rattle.std.specs.Prelude.{ℕ, ◌/◌, ◌%◌, ◌≤◌, ◌<◌, ◌≡�
 use Rattle.bits.specs.Bit.{bit}
 use Rattle.table.specs.Steps.{strikes}
 use Rattle.table.specs.Table.{in_column, in_row, same_half}
-use Rattle.lane.specs.Lanes.{row_lane, column_lane}
+use Rattle.lane.specs.Lanes.{row_lane, column_lane, lane_value}
+use Rattle.lane.specs.declared.Lane.{Lane}
 use Rattle.queue_state.specs.Ready.{Ready}
 use Rattle.table.specs.Value.{ValueOf}
 use Rattle.set_cell.specs.Run.{Sides}
@@ -19,13 +20,9 @@ pub record SetAsk (n : ℕ) (l : List ℕ) (r c v : ℕ) : Type 0 where
   pub column : c < n
   pub value : ValueOf n v
 
--- The strikes of its parts: the value elsewhere in the row, elsewhere in the column, and, of a black, blacks that are out of order.
-abbrev pub RowOthers : ℕ → ℕ → ℕ → ℕ → ℕ → ℕ → Type 0
-RowOthers n r c v x w = (in_row v ≡ true) × Sides (row_lane r) n c v v x w
-
--- The same in the column.
-abbrev pub ColumnOthers : ℕ → ℕ → ℕ → ℕ → ℕ → ℕ → Type 0
-ColumnOthers n r c v x w = (in_column v ≡ true) × Sides (column_lane c) n r v v x w
+-- The strikes of its parts: a value of a line's half at the other places of the line, and, of a black, blacks that are out of order.
+abbrev pub Others : Lane → ℕ → ℕ → ℕ → ℕ → ℕ → Type 0
+Others lane n i v x w = (lane_value lane v ≡ true) × Sides lane n i v v x w
 
 -- What a black leaves out: second blacks before it and first blacks behind it, in its row and in its column.
 abbrev pub BlacksAround : ℕ → ℕ → ℕ → ℕ → ℕ → ℕ → Type 0

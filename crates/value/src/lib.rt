@@ -2,7 +2,7 @@
 // Inside the engine a value is its own candidate bit: digit d is bit d, and the four blacks are bits 8 to 11 at every size.
 #![tactic(auto)]
 
-ghost use Rattle.std.specs.Prelude.{◌≡◌, ◌+◌, ◌*◌, ◌<◌, MatchOption};
+ghost use Rattle.std.specs.Prelude.{◌≡◌, ◌+◌, ◌*◌, ◌/◌, ◌%◌, ◌<◌, MatchOption};
 ghost use Rattle.std.specs.Iterator.{at_most};
 ghost use Rattle.rules.specs.Grid.{digits};
 ghost use Rattle.rules.specs.Check.{named};
@@ -84,6 +84,17 @@ pub struct Candidate {
 }
 
 impl Candidate {
+    // A value in the cell at a place.
+    pub fn at(cell: usize, value: usize) -> Candidate
+        ensures { result ≡ record { row = cell / 9; column = cell % 9; value = value } }
+    {
+        Candidate {
+            row: cell / 9,
+            column: cell % 9,
+            value,
+        }
+    }
+
     // The place of its cell.
     pub fn cell(self) -> usize
         requires { (self.row < 9) × (self.column < 9) }

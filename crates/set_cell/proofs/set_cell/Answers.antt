@@ -1,18 +1,28 @@
 -- `set_cell::set_cell` meets its contract. Assumes nothing.
-use borrow.Author.Rules.{rules}
-use Rattle.set_cell.proofs.SetLaws.{ask_grown, ask_value, set_struck}
+use native.Mathlib.Omega.{arith}
+use Rattle.queue_state.proofs.StruckLaws.{struck_both}
+use Rattle.set_cell.proofs.SetLaws.{ask_grown, ask_narrow, ask_row, ask_column, ask_value, some_struck, none_struck, set_struck}
 use Rattle.set_cell.proofs.set_cell.Goals as goal
 
-pub clear_column-requires : goal.clear_column-requires
-clear_column-requires c = search (rules, ask_grown)
+pub clear_others-requires : goal.clear_others-requires
+clear_others-requires c = ask_row c.requires c.row-row.ensures (ask_narrow c.requires) (ask_narrow c.requires)
+
+pub clear_others-requires-2 : goal.clear_others-requires-2
+clear_others-requires-2 c =
+    ask_column (ask_grown c.clear_others.ensures.grown c.requires) c.column-column.ensures (ask_narrow c.requires) (ask_narrow c.requires)
 
 pub rest_of_half-requires : goal.rest_of_half-requires
-rest_of_half-requires c = search (rules, ask_value)
+rest_of_half-requires c = ask_value c.requires
 
-pub clear_around-requires : goal.clear_around-requires
-clear_around-requires c =
-    ask_grown c.clear_mask.ensures.grown (ask_grown c.clear_column.ensures.grown
-    (ask_grown c.clear_row.ensures.grown c.requires))
+pub returns-then-x-ge-BLACK1_ROW : goal.returns-then-x-ge-BLACK1_ROW
+returns-then-x-ge-BLACK1_ROW c =
+    set_struck c.requires c.rest_of_half.ensures
+    (rw c.row-row.ensures at c.clear_others.ensures) (rw c.column-column.ensures at c.clear_others-2.ensures) (rw c.cell.ensures at c.clear_mask.ensures)
+    (some_struck c.if-x-ge-BLACK1_ROW.true
+    (struck_both (rw c.row-row.ensures at c.clear_around.ensures) (rw c.column-column.ensures at c.clear_around-then-x-ge-BLACK1_ROW.ensures)))
 
-pub returns : goal.returns
-returns c = search (rules, set_struck)
+pub returns-else-x-ge-BLACK1_ROW : goal.returns-else-x-ge-BLACK1_ROW
+returns-else-x-ge-BLACK1_ROW c =
+    set_struck c.requires c.rest_of_half.ensures
+    (rw c.row-row.ensures at c.clear_others.ensures) (rw c.column-column.ensures at c.clear_others-2.ensures) (rw c.cell.ensures at c.clear_mask.ensures)
+    (none_struck _ _ _ (λ h. omega (arith, h)))
