@@ -7,7 +7,7 @@ use mathlib.Core.List.{List}
 use native.Mathlib.Omega.{arith}
 use lib.Dec.{eqb, ltb, leb}
 use lib.ListN.{get_or, set}
-use borrow.Author.Tests.{eqb-true, eq-eqb, le-leb, lt-leb, lt-ltb, leb-true, ltb-true}
+use borrow.Author.Tests.{eqb-true, eq-eqb, le-leb, lt-ltb, leb-true, ltb-true}
 use Rattle.tally.specs.Tally.{span, all}
 use Rattle.tally.proofs.TallyLaws.{and_both, or_split}
 use Rattle.rules.specs.Grid.{Line, across, down}
@@ -33,13 +33,7 @@ use Rattle.singles.proofs.ReasonLaws.{still_lower}
 use Rattle.singles.specs.Reasons.{Reason, crossed, done, step}
 use Rattle.singles.specs.Handling.{black_of, cross_mask, BlacksAt, BlacksAsk, BlacksDone}
 
--- ---- the test of the code
-pub below_blacks : (k v : ℕ) → v < k → false ≡ black_of k v
-below_blacks k v h = rw (lt-leb k v h)
-
-pub from_blacks : (k v : ℕ) → k ≤ v → ltb v (k + 2) ≡ black_of k v
-from_blacks k v h = rw (le-leb k v h)
-
+-- ---- the test
 black_yes : (k v : ℕ) → k ≤ v → v < k + 2 → black_of k v ≡ true
 black_yes k v h l = and_both (le-leb k v h) (lt-ltb v (k + 2) l)
 

@@ -224,9 +224,6 @@ module _ {n counter x mask : ℕ} {own : Bool} {l : List ℕ} {ℓ : Line} {i h 
 
 -- ---- the ways out, as the code has them
 module _ {n counter x mask : ℕ} {own : Bool} {l : List ℕ} (a : HalfAsk n l own counter x mask) where
-  pub half_cell : x < 81
-  half_cell = omega (arith, grid a.ready a.half, high a.ready a.half)
-
   pub half_passed : own ≡ false → HalfDone n l l own counter x mask
   half_passed t = record { moved = moved_refl l; steps = done; halves = λ ℓ i h v b. half_pass a.ready b t }
 

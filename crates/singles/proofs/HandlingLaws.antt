@@ -7,6 +7,7 @@ use Rattle.queue_state.specs.Slab.{Grown}
 use Rattle.queue_state.proofs.ReadyLaws.{ready_grown, next_grown}
 use Rattle.queue_state.specs.Ready.{Ready, Next}
 use Rattle.counters.proofs.CounterLaws.{next_valid}
+use Rattle.line_laws.proofs.CellValues.{value_range}
 use Rattle.singles.specs.Handling.{Handling}
 
 -- the next strike of the queue is one
@@ -29,3 +30,13 @@ handling_now g a k x = handling_grown g (handling_at a k x)
 
 pub handling_cell : {n r c v h : ℕ} {l : List ℕ} → Handling n l r c v h → r * 9 + c < 81
 handling_cell a = omega (arith, a.row, a.column, a.ready.size.high)
+
+pub handling_value : {n r c v h : ℕ} {l : List ℕ} → Handling n l r c v h → v < 12
+handling_value a = (value_range a.ready.size.high a.value).1
+
+-- the row and the column of a place
+pub row_back : (r c : ℕ) → c < 9 → (r * 9 + c) / 9 ≡ r
+row_back r c h = omega arith
+
+pub column_back : (r c : ℕ) → c < 9 → (r * 9 + c) % 9 ≡ c
+column_back r c h = omega arith

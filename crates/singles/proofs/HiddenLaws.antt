@@ -1,71 +1,65 @@
 -- The handler of a value's places in both lines of a cell. Assumes nothing.
-use Prim.Native.Nat.{ℕ, ◌+◌, ◌*◌, ◌≤◌, ◌<◌}
-use mathlib.Core.Path.{◌≡◌}
-use mathlib.Core.Bool.{Bool}
+use Prim.Native.Nat.{ℕ, ◌+◌, ◌*◌, ◌≤◌}
 use mathlib.Core.Logic.{inl, inr}
 use mathlib.Core.List.{List}
 use native.Mathlib.Omega.{arith}
 use Rattle.rules.specs.Grid.{across, down, index}
-use Rattle.table.specs.Table.{in_column, in_row}
+use Rattle.lane.specs.Lanes.{row_lane, column_lane, lane_value}
 use Rattle.queue_state.specs.Layout.{places_at, value_place, row_blacks_at}
 use Rattle.queue_state.specs.Ready.{Next}
-use Rattle.line_laws.proofs.CellValues.{value_range}
 use Rattle.counters.specs.Counters.{PlacesOf}
 use Rattle.counters.proofs.CounterLaws.{moved_wide, moved_both}
 use Rattle.counters.proofs.Families.{place_moved}
+use Rattle.set_cell.proofs.SettingLaws.{row_value, column_value}
 use Rattle.singles.proofs.ReasonLaws.{steps_both}
-use Rattle.singles.proofs.HandlingLaws.{handling_grown, handling_at, handling_now}
+use Rattle.singles.proofs.HandlingLaws.{handling_grown, handling_at, handling_now, handling_value}
 use Rattle.singles.specs.Handling.{Handling, PlacesAt, PlacesAsk, PlacesDone, HiddenAsk, HiddenDone}
 
-module _ {n r c v h : ℕ} {l : List ℕ} {b : Bool} (a : Handling n l r c v h) where
-  row_at : b ≡ in_row v → PlacesOf (across r) n l h → PlacesAt n l b (value_place r v) (r * 9) 1 v (across r) c h
+module _ {n r c v h : ℕ} {l : List ℕ} (a : Handling n l r c v h) where
+  row_at : PlacesOf (across r) n l h → PlacesAt n l (lane_value (row_lane r) v) (value_place r v) (r * 9) 1 v (across r) c h
   unfolding index
-  row_at e w =
+  row_at w =
       record {
         line = a.row;
         place = a.column;
         along = λ j. omega arith;
         at_counter = omega arith;
         value = a.value;
-        owned = e;
+        owned = row_value v;
         next = a.next;
         places = w;
       }
 
-  column_at : b ≡ in_column v → PlacesOf (down c) n l h → PlacesAt n l b (value_place (9 + c) v) c 9 v (down c) r h
+  column_at : PlacesOf (down c) n l h → PlacesAt n l (lane_value (column_lane c) v) (value_place (9 + c) v) c 9 v (down c) r h
   unfolding index
-  column_at e w =
+  column_at w =
       record {
         line = a.column;
         place = a.row;
         along = λ j. omega arith;
         at_counter = omega arith;
         value = a.value;
-        owned = e;
+        owned = column_value v (handling_value a);
         next = a.next;
         places = w;
       }
 
 module _ {n r c v : ℕ} {l : List ℕ} (a : HiddenAsk n l r c v) where
-  value_small : v < 12
-  value_small = (value_range a.strike.ready.size.high a.strike.value).1
+  row_end : value_place r v + 1 ≤ places_at + 9 * 16
+  row_end = omega (arith, a.strike.row, a.strike.ready.size.high, handling_value a.strike)
 
-  pub row_end : value_place r v + 1 ≤ places_at + 9 * 16
-  row_end = omega (arith, a.strike.row, a.strike.ready.size.high, value_small)
+  column_end : value_place (9 + c) v + 1 ≤ row_blacks_at
+  column_end = omega (arith, a.strike.column, a.strike.ready.size.high, handling_value a.strike)
 
-  pub column_end : value_place (9 + c) v + 1 ≤ row_blacks_at
-  column_end = omega (arith, a.strike.column, a.strike.ready.size.high, value_small)
+  pub row_places_ask : PlacesAsk n l (lane_value (row_lane r) v) (value_place r v) (r * 9) 1 v
+  row_places_ask = record { ready = a.strike.ready; line = across r; place = c; head = a.head; counted = row_at a.strike a.places.rows }
 
-module _ {n r c v : ℕ} {l : List ℕ} {b : Bool} (a : HiddenAsk n l r c v) (e : b ≡ in_row v) where
-  pub row_places_ask : PlacesAsk n l b (value_place r v) (r * 9) 1 v
-  row_places_ask = record { ready = a.strike.ready; line = across r; place = c; head = a.head; counted = row_at a.strike e a.places.rows }
-
-  module _ {l₁ : List ℕ} {b' : Bool} (d : PlacesDone n l l₁ b (value_place r v) (r * 9) 1 v) (e' : b' ≡ in_column v) where
-    column_now : (h : ℕ) → Next l h (r * 9 + c) v → PlacesOf (down 0) n l h → PlacesAt n l₁ b' (value_place (9 + c) v) c 9 v (down c) r h
+  module _ {l₁ : List ℕ} (d : PlacesDone n l l₁ (lane_value (row_lane r) v) (value_place r v) (r * 9) 1 v) where
+    column_now : (h : ℕ) → Next l h (r * 9 + c) v → PlacesOf (down 0) n l h → PlacesAt n l₁ (lane_value (column_lane c) v) (value_place (9 + c) v) c 9 v (down c) r h
     column_now h x w =
-        column_at (handling_now d.moved.grown a.strike h x) e' (place_moved a.strike.ready.size.high d.moved (omega (arith, x.waiting)) (down 0) (inr (row_end a)) w)
+        column_at (handling_now d.moved.grown a.strike h x) (place_moved a.strike.ready.size.high d.moved (omega (arith, x.waiting)) (down 0) (inr row_end) w)
 
-    pub column_places_ask : PlacesAsk n l₁ b' (value_place (9 + c) v) c 9 v
+    pub column_places_ask : PlacesAsk n l₁ (lane_value (column_lane c) v) (value_place (9 + c) v) c 9 v
     column_places_ask =
         record {
           ready = (handling_grown d.moved.grown a.strike).ready;
@@ -75,15 +69,15 @@ module _ {n r c v : ℕ} {l : List ℕ} {b : Bool} (a : HiddenAsk n l r c v) (e 
           counted = column_now a.head a.strike.next a.places.columns;
         }
 
-    pub hidden_done : {l₂ : List ℕ} → PlacesDone n l₁ l₂ b' (value_place (9 + c) v) c 9 v → HiddenDone n l l₂ r c v
+    pub hidden_done : {l₂ : List ℕ} → PlacesDone n l₁ l₂ (lane_value (column_lane c) v) (value_place (9 + c) v) c 9 v → HiddenDone n l l₂ r c v
     hidden_done f =
         record {
-          moved = moved_both (moved_wide d.moved (omega arith) (omega (arith, row_end a))) (moved_wide f.moved (omega arith) (column_end a));
+          moved = moved_both (moved_wide d.moved (omega arith) (omega (arith, row_end))) (moved_wide f.moved (omega arith) column_end);
           steps = steps_both d.steps f.steps;
           places = λ h x w.
               record {
                 rows = place_moved a.strike.ready.size.high f.moved (omega (arith, x.waiting, d.moved.grown.grows)) (across 0) (inl (omega arith))
-                    (d.places (across r) c h (row_at (handling_at a.strike h x) e w.rows));
+                    (d.places (across r) c h (row_at (handling_at a.strike h x) w.rows));
                 columns = f.places (down c) r h (column_now h x w.columns);
               };
         }

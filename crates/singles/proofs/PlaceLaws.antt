@@ -26,6 +26,7 @@ use Rattle.counters.proofs.Lines.{in_grid, grid_place, place_yes, in_half, line_
 use Rattle.table.specs.Lines.{cell_of}
 use Rattle.singles.proofs.ReasonLaws.{still_lower, taken_at}
 use Rattle.singles.specs.Reasons.{Reason, hidden, done, step}
+use Rattle.std.specs.Prelude.{Some, None}
 use Rattle.singles.specs.Handling.{FindAsk, PlaceFound, PlacesAt, PlacesAsk, PlacesDone}
 use Rattle.singles.proofs.HalfLaws.{set_now, set_never}
 
@@ -111,21 +112,21 @@ module _ {n counter start stride v : ℕ} {own : Bool} {l : List ℕ} {ℓ : Lin
           one (no e) = omega (arith, cand_lt l₂ (cell_of ℓ j) v)
 
       -- no place of the line has the candidate
-      pub places_none : {p : ℕ} → PlaceFound l₂ n start stride v p → n ≤ p → PlacesOf ℓ n l₂ (h + 1)
-      places_none {p} g k = finish (λ m j b. set_never (cell_of ℓ j) v (one j b (dec_lt j n)))
+      pub places_none : PlaceFound l₂ n start stride v None → PlacesOf ℓ n l₂ (h + 1)
+      places_none g = finish (λ m j b. set_never (cell_of ℓ j) v (one j b (dec_lt j n)))
         where
           one : (j : ℕ) → j < 9 → Dec (j < n) → cand l₂ (cell_of ℓ j) v ≡ 0
-          one j b (yes q) = rw (a.along j) at (g.none k j q)
+          one j b (yes q) = rw (a.along j) at (g j q)
           one j b (no q) = outside j b (omega arith)
 
     -- one place is left: it is set to the value
-    module _ {l₁ : List ℕ} {p : ℕ} (f : Fell l l₁ counter) (g : PlaceFound l₁ n start stride v p) (k : p < n) where
+    module _ {l₁ : List ℕ} {p : ℕ} (f : Fell l l₁ counter) (g : PlaceFound l₁ n start stride v (Some p)) where
       here : cand l₁ (cell_of ℓ p) v ≡ 1
-      here = rw (a.along p) at (g.here k)
+      here = rw (a.along p) at g.1
 
       pub place_ask : SetAsk n l₁ ((start + p * stride) / 9) ((start + p * stride) % 9) v
       place_ask =
-          let q = in_grid n ℓ p high a.line k in
+          let q = in_grid n ℓ p high a.line g.0 in
           rw (a.along p) (record { ready = ready_grown f.grown ready; row = q.0; column = q.1; value = a.value })
 
       module _ {l₂ : List ℕ} (s : Struck l₁ l₂ (SetHit ((start + p * stride) / 9) ((start + p * stride) % 9) v)) where
@@ -142,7 +143,7 @@ module _ {n counter start stride v : ℕ} {own : Bool} {l : List ℕ} {ℓ : Lin
 
         pub place_reason : get_or l₁ counter 0 ≡ 1 → Reason n l₁ l₂
         place_reason o =
-            hidden ℓ p v a.line k (in_half n ℓ v a.value owned) (λ j b e. one j b e (ℕ_discrete j p))
+            hidden ℓ p v a.line g.0 (in_half n ℓ v a.value owned) (λ j b e. one j b e (ℕ_discrete j p))
             (taken_at ℓ p (cell_of ℓ p) v line_small (omega (arith, high)) refl at_place)
           where
             had : (j : ℕ) → cand l₁ (cell_of ℓ j) v ≡ 1 → cand l (cell_of ℓ j) v ≡ 1
@@ -194,28 +195,26 @@ module _ {n counter start stride v : ℕ} {own : Bool} {l : List ℕ} (a : Place
       pub find_ask : FindAsk l₁ n start stride v
       find_ask = record { size = fell_one.grown.size ∙ a.ready.sized.size; value = narrow a.ready a.counted; cells = cells }
 
-      module _ {p : ℕ} (g : PlaceFound l₁ n start stride v p) where
-        pub places_empty : n ≤ p → PlacesDone n l l₁ own counter start stride v
-        places_empty k =
+      pub places_empty : PlaceFound l₁ n start stride v None → PlacesDone n l l₁ own counter start stride v
+      places_empty g =
+          record {
+            moved = fell_moved fell_one (omega arith) (omega arith);
+            steps = step lowered done;
+            places = λ ℓ i h b. places_none a.ready b t fell_one g;
+          }
+
+      module _ {p : ℕ} (g : PlaceFound l₁ n start stride v (Some p)) where
+        pub place_set_ask : SetAsk n l₁ ((start + p * stride) / 9) ((start + p * stride) % 9) v
+        place_set_ask = place_ask a.ready a.counted t fell_one g
+
+        pub place_cell : start + p * stride < 81
+        place_cell = cells.inside p g.0
+
+        pub place_settled : {l₂ : List ℕ} → r ≡ 1 → Struck l₁ l₂ (SetHit ((start + p * stride) / 9) ((start + p * stride) % 9) v) →
+            PlacesDone n l l₂ own counter start stride v
+        place_settled o s =
             record {
-              moved = fell_moved fell_one (omega arith) (omega arith);
-              steps = step lowered done;
-              places = λ ℓ i h b. places_none a.ready b t fell_one g k;
+              moved = fell_moved (fell_struck places_lower.from fell_one s) (omega arith) (omega arith);
+              steps = step lowered (step (place_reason a.ready a.counted t fell_one g s (omega (arith, fell_one.here, e.0, places_lower.positive))) done);
+              places = λ ℓ i h b. place_set a.ready b t fell_one g s;
             }
-
-        module _ (k : p < n) where
-          pub place_set_ask : SetAsk n l₁ ((start + p * stride) / 9) ((start + p * stride) % 9) v
-          place_set_ask = place_ask a.ready a.counted t fell_one g k
-
-          pub place_cell : start + p * stride < 81
-          place_cell = cells.inside p k
-
-          pub place_settled : {l₂ : List ℕ} → r ≡ 1 → Struck l₁ l₂ (SetHit ((start + p * stride) / 9) ((start + p * stride) % 9) v) →
-              PlacesDone n l l₂ own counter start stride v
-          place_settled o s =
-              record {
-                moved = fell_moved (fell_struck places_lower.from fell_one s) (omega arith) (omega arith);
-                steps = step lowered (step (place_reason a.ready a.counted t fell_one g k s
-                    (omega (arith, fell_one.here, e.0, places_lower.positive))) done);
-                places = λ ℓ i h b. place_set a.ready b t fell_one g k s;
-              }

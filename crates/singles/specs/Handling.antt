@@ -1,5 +1,5 @@
 -- What a handler of a strike asks and gives. Assumes nothing.
-use Rattle.std.specs.Prelude.{ℕ, ◌+◌, ◌*◌, ◌≤◌, ◌<◌, ◌≡◌, Bool, ◌&&◌, List, leb, ltb, length}
+use Rattle.std.specs.Prelude.{ℕ, ◌+◌, ◌*◌, ◌<◌, ◌≡◌, Bool, ◌&&◌, List, Option, Some, None, leb, ltb, length}
 use Rattle.rules.specs.Grid.{Line, across, down, index}
 use Rattle.queue_state.specs.Layout.{row_half_at, places_at, row_blacks_at, lengths_at, slab_size}
 use Rattle.queue_state.specs.Slab.{cand}
@@ -68,10 +68,10 @@ pub record FindAsk (l : List ℕ) (n start stride v : ℕ) : Type 0 where
   pub value : v < 16
   pub cells : Inside start stride n
 
--- The first place of the line that has the candidate v, or n.
-pub record PlaceFound (l : List ℕ) (n start stride v p : ℕ) : Type 0 where
-  pub here : p < n → cand l (start + p * stride) v ≡ 1
-  pub none : n ≤ p → (j : ℕ) → j < n → cand l (start + j * stride) v ≡ 0
+-- A place of the line that has the candidate v, or none of its places has it.
+abbrev pub PlaceFound : List ℕ → ℕ → ℕ → ℕ → ℕ → Option ℕ → Type 0
+PlaceFound l n start stride v (Some p) = (p < n) × (cand l (start + p * stride) v ≡ 1)
+PlaceFound l n start stride v None = (j : ℕ) → j < n → cand l (start + j * stride) v ≡ 0
 
 -- A line by its start and stride, the counter of v in it, and the strike of v at place i that its counters have next.
 pub record PlacesAt (n : ℕ) (l : List ℕ) (own : Bool) (counter start stride v : ℕ) (ℓ : Line) (i h : ℕ) : Type 0 where

@@ -2,151 +2,89 @@
 // update_singleton, update_hidden_singles and update_black_consistency).
 #![tactic(auto)]
 
-ghost use Rattle.std.specs.Prelude.{◌≡◌, ◌<◌};
-ghost use Rattle.singles.specs.Handling.{HalfAsk, HalfDone, SingletonAsk, SingletonDone, FindAsk, PlaceFound, PlacesAsk, PlacesDone, HiddenAsk, HiddenDone, black_of, BlacksAsk, BlacksDone, ConsistencyAsk, ConsistencyDone};
+ghost use Rattle.std.specs.Prelude.{◌≡◌, ◌+◌, ◌*◌, ◌<◌};
+ghost use Rattle.lane.specs.Lanes.{lane_black, lane_value};
+ghost use Rattle.queue_state.specs.Layout.{places_at};
+ghost use Rattle.singles.specs.Handling.{HalfAsk, HalfDone, SingletonAsk, SingletonDone, FindAsk, PlaceFound, PlacesAsk, PlacesDone, HiddenAsk, HiddenDone, BlacksAsk, BlacksDone, ConsistencyAsk, ConsistencyDone};
 
+use lane::Lane;
 use queue_state::{Slab, clear_mask, lower};
-use set_cell::{in_column, in_row, set_cell};
-use value::Value;
+use set_cell::set_cell;
+use value::{Candidate, Value};
 
-// The counter of a cell's half falls, if the struck value is of that half; a half with one candidate left is set to it.
-fn update_half(st: &mut [u16], n: usize, own: bool, counter: usize, cell: usize, mask: u16)
-    requires { HalfAsk n st.old own counter cell mask }
-    ensures { HalfDone n st.old st.new own counter cell mask }
+// A strike of x: the counter of its cell's half of one of its lines falls, if x is of that half; a half with one candidate left is set to it.
+fn update_half(st: &mut [u16], n: usize, lane: Lane, x: Candidate, counters: usize, mask: u16)
+    requires { HalfAsk n st.old (lane_value lane x.value) (counters + (x.row * 9 + x.column)) (x.row * 9 + x.column) mask × (x.row < 9) × (x.column < 9) }
+    ensures { HalfDone n st.old st.new (lane_value lane x.value) (counters + (x.row * 9 + x.column)) (x.row * 9 + x.column) mask }
 {
-    if own {
-        if lower(st, counter) == 1 {
-            let d = st[cell] & mask;
-            if u16::count_ones(d) == 1 {
-                set_cell(st, n, cell / 9, cell % 9, u16::trailing_zeros(d) as usize);
-            }
+    let cell = x.cell();
+    if lane.has(x.value) && lower(st, counters + cell) == 1 {
+        let left = st[cell] & mask;
+        if left.count_ones() == 1 {
+            let value = left.trailing_zeros() as usize;
+            set_cell(st, n, Candidate { value, ..x });
         }
     }
 }
 
-// A strike of v in the cell of row r and column c: the counters of both halves of the cell.
-pub fn update_singleton(st: &mut [u16], n: usize, r: usize, c: usize, v: usize)
-    requires { SingletonAsk n st.old r c v }
-    ensures { SingletonDone n st.old st.new r c v }
+// A strike of x: the counters of both halves of its cell.
+pub fn update_singleton(st: &mut [u16], n: usize, x: Candidate)
+    requires { SingletonAsk n st.old x.row x.column x.value }
+    ensures { SingletonDone n st.old st.new x.row x.column x.value }
 {
-    let cell = r * 9 + c;
-    update_half(
-        st,
-        n,
-        in_row(v),
-        Slab::ROW_HALF + cell,
-        cell,
-        Value::ROW_HALF,
-    );
-    update_half(
-        st,
-        n,
-        in_column(v),
-        Slab::COL_HALF + cell,
-        cell,
-        Value::COL_HALF,
-    );
+    let row = Lane::row(x.row);
+    let column = Lane::column(x.column);
+    update_half(st, n, row, x, Slab::ROW_HALF, Value::ROW_HALF);
+    update_half(st, n, column, x, Slab::COL_HALF, Value::COL_HALF);
 }
 
-// The first place of a line that has the candidate v, or n.
-fn find_place(st: &[u16], n: usize, start: usize, stride: usize, v: usize) -> usize
-    requires { FindAsk st.now n start stride v }
-    ensures { PlaceFound st.now n start stride v result }
+// The first place of a line that has the candidate v.
+fn find_place(st: &[u16], n: usize, lane: Lane, v: usize) -> Option<usize>
+    requires { FindAsk st.now n lane.start lane.stride v }
+    ensures { PlaceFound st.now n lane.start lane.stride v result }
 {
-    let mut p = 0;
-    while p < n {
-        if (st[start + p * stride] >> v) % 2 == 1 {
-            return p;
-        }
-        p += 1;
-    }
-    n
+    (0..n).find(|&p| (st[lane.cell(p)] >> v) % 2 == 1)
 }
 
 // The counter of a value's places in a line falls, if the line has the value; a value with one place left is set there.
-fn update_places(
-    st: &mut [u16],
-    n: usize,
-    own: bool,
-    counter: usize,
-    start: usize,
-    stride: usize,
-    v: usize,
-)
-    requires { PlacesAsk n st.old own counter start stride v }
-    ensures { PlacesDone n st.old st.new own counter start stride v }
+fn update_places(st: &mut [u16], n: usize, lane: Lane, v: usize)
+    requires { PlacesAsk n st.old (lane_value lane v) (places_at + lane.number * 16 + v) lane.start lane.stride v }
+    ensures { PlacesDone n st.old st.new (lane_value lane v) (places_at + lane.number * 16 + v) lane.start lane.stride v }
 {
-    if own {
-        if lower(st, counter) == 1 {
-            let p = find_place(st, n, start, stride, v);
-            if p < n {
-                let cell = start + p * stride;
-                set_cell(st, n, cell / 9, cell % 9, v);
-            }
+    if lane.has(v) && lower(st, Slab::PLACES + lane.number * 16 + v) == 1 {
+        if let Some(place) = find_place(st, n, lane, v) {
+            set_cell(st, n, Candidate::at(lane.cell(place), v));
         }
     }
 }
 
-// The same strike: the counters of v's places in both lines of the cell.
-pub fn update_hidden_singles(st: &mut [u16], n: usize, r: usize, c: usize, v: usize)
-    requires { HiddenAsk n st.old r c v }
-    ensures { HiddenDone n st.old st.new r c v }
+// The same strike: the counters of its value's places in both lines of its cell.
+pub fn update_hidden_singles(st: &mut [u16], n: usize, x: Candidate)
+    requires { HiddenAsk n st.old x.row x.column x.value }
+    ensures { HiddenDone n st.old st.new x.row x.column x.value }
 {
-    update_places(st, n, in_row(v), Slab::PLACES + r * 16 + v, r * 9, 1, v);
-    update_places(
-        st,
-        n,
-        in_column(v),
-        Slab::PLACES + (9 + c) * 16 + v,
-        c,
-        9,
-        v,
-    );
+    update_places(st, n, Lane::row(x.row), x.value);
+    update_places(st, n, Lane::column(x.column), x.value);
 }
 
-// One of the blacks k and k + 1.
-fn is_black(v: usize, k: usize) -> bool
-    requires { k < 12 }
-    ensures { result ≡ black_of k v }
+// The counter of a cell's blacks of one line falls, if x is one of them; where none is left, those of the other line are struck.
+fn update_blacks(st: &mut [u16], n: usize, lane: Lane, x: Candidate, counters: usize, mask: u16)
+    requires { BlacksAsk n st.old (lane_black lane x.value) (counters + (x.row * 9 + x.column)) (x.row * 9 + x.column) mask × (x.row < 9) × (x.column < 9) }
+    ensures { BlacksDone n st.old st.new (lane_black lane x.value) (counters + (x.row * 9 + x.column)) (x.row * 9 + x.column) mask }
 {
-    if v < k {
-        return false;
-    }
-    v < k + 2
-}
-
-// The counter of a cell's blacks of one kind falls, if the struck value is one of them; where none is left, those of the other kind are struck.
-fn update_blacks(st: &mut [u16], n: usize, own: bool, counter: usize, cell: usize, mask: u16)
-    requires { BlacksAsk n st.old own counter cell mask }
-    ensures { BlacksDone n st.old st.new own counter cell mask }
-{
-    if own {
-        if lower(st, counter) == 0 {
-            clear_mask(st, cell, mask);
-        }
+    let cell = x.cell();
+    if lane.has_black(x.value) && lower(st, counters + cell) == 0 {
+        clear_mask(st, cell, mask);
     }
 }
 
-// The same strike: the counters of both kinds of blacks of the cell.
-pub fn update_black_consistency(st: &mut [u16], n: usize, r: usize, c: usize, v: usize)
-    requires { ConsistencyAsk n st.old r c v }
-    ensures { ConsistencyDone n st.old st.new r c v }
+// The same strike: the counters of both kinds of blacks of its cell.
+pub fn update_black_consistency(st: &mut [u16], n: usize, x: Candidate)
+    requires { ConsistencyAsk n st.old x.row x.column x.value }
+    ensures { ConsistencyDone n st.old st.new x.row x.column x.value }
 {
-    let cell = r * 9 + c;
-    update_blacks(
-        st,
-        n,
-        is_black(v, Value::BLACK1_ROW),
-        Slab::ROW_BLACKS + cell,
-        cell,
-        Value::COL_BLACKS,
-    );
-    update_blacks(
-        st,
-        n,
-        is_black(v, Value::BLACK1_COL),
-        Slab::COL_BLACKS + cell,
-        cell,
-        Value::ROW_BLACKS,
-    );
+    let row = Lane::row(x.row);
+    let column = Lane::column(x.column);
+    update_blacks(st, n, row, x, Slab::ROW_BLACKS, Value::COL_BLACKS);
+    update_blacks(st, n, column, x, Slab::COL_BLACKS, Value::ROW_BLACKS);
 }
