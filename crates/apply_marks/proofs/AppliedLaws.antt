@@ -61,32 +61,32 @@ struck_applied a s t =
 
 -- the fields of a mark, as the code has them
 module _ {n w : ℕ} {l : List ℕ} {m : Mark} (u : m ≡ unpacked w) (a : MarkAsk n l w) where
-  row_is : m.row ≡ mark_row w
-  row_is = ap (λ (x : Mark). x.row) u
+  row_is : m.candidate.row ≡ mark_row w
+  row_is = ap (λ (x : Mark). x.candidate.row) u
 
-  column_is : m.column ≡ mark_column w
-  column_is = ap (λ (x : Mark). x.column) u
+  column_is : m.candidate.column ≡ mark_column w
+  column_is = ap (λ (x : Mark). x.candidate.column) u
 
-  value_is : m.value ≡ mark_value w
-  value_is = ap (λ (x : Mark). x.value) u
+  value_is : m.candidate.value ≡ mark_value w
+  value_is = ap (λ (x : Mark). x.candidate.value) u
 
   rejects_is : m.rejects ≡ rejects w
   rejects_is = ap (λ (x : Mark). x.rejects) u
 
-  pub mark_row_lem : m.row < 9
+  pub mark_row_lem : m.candidate.row < 9
   mark_row_lem = omega (arith, row_is, a.accepted.row_in, a.lagging.ready.size.high)
 
-  pub mark_column_lem : m.column < 9
+  pub mark_column_lem : m.candidate.column < 9
   mark_column_lem = omega (arith, column_is, a.accepted.column_in, a.lagging.ready.size.high)
 
-  pub mark_clears : Sized l × (m.row * 9 + m.column < 81) × (m.value < 16)
+  pub mark_clears : Sized l × (m.candidate.row * 9 + m.candidate.column < 81) × (m.candidate.value < 16)
   mark_clears = (
     a.lagging.ready.sized,
     omega (arith, mark_row_lem, mark_column_lem),
     omega (arith, value_is, value_small n (mark_value w) a.lagging.ready.size.high a.accepted.value_in),
   )
 
-  pub mark_sets : SetAsk n l m.row m.column m.value
+  pub mark_sets : SetAsk n l m.candidate.row m.candidate.column m.candidate.value
   mark_sets =
       record {
         ready = a.lagging.ready;
@@ -95,19 +95,19 @@ module _ {n w : ℕ} {l : List ℕ} {m : Mark} (u : m ≡ unpacked w) (a : MarkA
         value = subst (ValueOf n) (sym value_is) (value_of n (mark_value w) a.accepted.value_in);
       }
 
-  pub mark_rejected : {l' : List ℕ} → m.rejects ≡ true → Struck l l' (One (m.row * 9 + m.column) m.value) → MarksApplied n l l' (w ∷ [])
+  pub mark_rejected : {l' : List ℕ} → m.rejects ≡ true → Struck l l' (One (m.candidate.row * 9 + m.candidate.column) m.candidate.value) → MarksApplied n l l' (w ∷ [])
   unfolding marked
   mark_rejected {l'} t s =
-      let er : (m.row * 9 + m.column) / 9 ≡ mark_row w = omega (arith, mark_column_lem, row_is) in
-      let ec : (m.row * 9 + m.column) % 9 ≡ mark_column w = omega (arith, mark_column_lem, column_is) in
+      let er : (m.candidate.row * 9 + m.candidate.column) / 9 ≡ mark_row w = omega (arith, mark_column_lem, row_is) in
+      let ec : (m.candidate.row * 9 + m.candidate.column) % 9 ≡ mark_column w = omega (arith, mark_column_lem, column_is) in
       let y : rejects w ≡ true = sym rejects_is ∙ t in
-      struck_applied a s (λ i j v hi hj hv. rw (y, ← er, ← ec, ← value_is) (one_table (m.row * 9 + m.column) m.value s i j v hi hj hv))
+      struck_applied a s (λ i j v hi hj hv. rw (y, ← er, ← ec, ← value_is) (one_table (m.candidate.row * 9 + m.candidate.column) m.candidate.value s i j v hi hj hv))
 
-  pub mark_taken : {l' : List ℕ} → m.rejects ≡ false → Struck l l' (SetHit m.row m.column m.value) → MarksApplied n l l' (w ∷ [])
+  pub mark_taken : {l' : List ℕ} → m.rejects ≡ false → Struck l l' (SetHit m.candidate.row m.candidate.column m.candidate.value) → MarksApplied n l l' (w ∷ [])
   unfolding marked
   mark_taken {l'} t s =
       let y : rejects w ≡ false = sym rejects_is ∙ t in
-      struck_applied a s (λ i j v hi hj hv. rw (y, ← row_is, ← column_is, ← value_is) (set_table m.row m.column m.value s i j v hi hj hv))
+      struck_applied a s (λ i j v hi hj hv. rw (y, ← row_is, ← column_is, ← value_is) (set_table m.candidate.row m.candidate.column m.candidate.value s i j v hi hj hv))
 
 -- ---- a list of marks
 

@@ -15,10 +15,11 @@ fn apply_mark(st: &mut [u16], n: usize, word: u16)
     ensures { MarksApplied n st.old st.new (word ∷ []) }
 {
     let m = Mark::unpack(word);
+    let x = m.candidate;
     if m.rejects {
-        clear_value(st, m.row * 9 + m.column, m.value);
+        clear_value(st, x.cell(), x.value);
     } else {
-        set_cell(st, n, m.row, m.column, m.value);
+        set_cell(st, n, x);
     }
 }
 
@@ -27,10 +28,7 @@ pub fn apply_marks(st: &mut [u16], n: usize, bytes: &[u8])
     requires { MarksAsk n st.old bytes.now }
     ensures { MarksApplied n st.old st.new (marks_of bytes.now) }
 {
-    let count = mark_count(bytes.len());
-    let mut i = 0;
-    while i < count {
+    for i in 0..mark_count(bytes.len()) {
         apply_mark(st, n, mark_at(bytes, i));
-        i += 1;
     }
 }

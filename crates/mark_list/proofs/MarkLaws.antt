@@ -69,24 +69,24 @@ word_half bs i h = ap (λ x. get_or bs (2 * i) 0 * 256 + x) (sym (get_or_past bs
 -- ---- the checks of one mark, as the code has its fields
 
 module _ (n w : ℕ) (m : Mark) (u : m ≡ unpacked w) where
-  row_is : m.row ≡ mark_row w
-  row_is = ap (λ (x : Mark). x.row) u
+  row_is : m.candidate.row ≡ mark_row w
+  row_is = ap (λ (x : Mark). x.candidate.row) u
 
-  column_is : m.column ≡ mark_column w
-  column_is = ap (λ (x : Mark). x.column) u
+  column_is : m.candidate.column ≡ mark_column w
+  column_is = ap (λ (x : Mark). x.candidate.column) u
 
-  value_is : m.value ≡ mark_value w
-  value_is = ap (λ (x : Mark). x.value) u
+  value_is : m.candidate.value ≡ mark_value w
+  value_is = ap (λ (x : Mark). x.candidate.value) u
 
-  pub mark_5_row : w % 8 ≡ 0 → n ≤ m.row → Err MarkPlace ≡ checked (check_mark n w)
+  pub mark_5_row : w % 8 ≡ 0 → n ≤ m.candidate.row → Err MarkPlace ≡ checked (check_mark n w)
   unfolding checked
   mark_5_row h r = rw (eq-eqb (w % 8) 0 h, le-ltb (mark_row w) n (omega (arith, row_is)))
 
-  pub mark_5_column : w % 8 ≡ 0 → m.row < n → n ≤ m.column → Err MarkPlace ≡ checked (check_mark n w)
+  pub mark_5_column : w % 8 ≡ 0 → m.candidate.row < n → n ≤ m.candidate.column → Err MarkPlace ≡ checked (check_mark n w)
   unfolding checked
   mark_5_column h r c = rw (eq-eqb (w % 8) 0 h, lt-ltb (mark_row w) n (omega (arith, row_is)), le-ltb (mark_column w) n (omega (arith, column_is)))
 
-  module _ (h : w % 8 ≡ 0) (r : m.row < n) (c : m.column < n) (b : Bool) (e : b ≡ named n m.value) where
+  module _ (h : w % 8 ≡ 0) (r : m.candidate.row < n) (c : m.candidate.column < n) (b : Bool) (e : b ≡ named n m.candidate.value) where
     last : checked (check_mark n w) ≡ cond b (Ok tt) (Err MarkValue)
     unfolding checked
     last = rw (eq-eqb (w % 8) 0 h, lt-ltb (mark_row w) n (omega (arith, row_is)), lt-ltb (mark_column w) n (omega (arith, column_is)), ← value_is, ← e)

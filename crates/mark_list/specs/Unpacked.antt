@@ -5,7 +5,7 @@ use Rattle.mark_list.specs.declared.Mark.{Mark}
 
 -- The fields of a word.
 abbrev pub unpacked : ℕ → Mark
-unpacked m = record { rejects = rejects m; row = mark_row m; column = mark_column m; value = mark_value m }
+unpacked m = record { rejects = rejects m; candidate = record { row = mark_row m; column = mark_column m; value = mark_value m } }
 
 -- The word of mark i: its two bytes, the missing half of half a mark read as 7.
 abbrev pub word_at : List ℕ → ℕ → ℕ

@@ -10,14 +10,13 @@ ghost use Rattle.mark_list.specs.Unpacked.{unpacked, word_at};
 
 use refusal::Refusal;
 use units::Unit;
-use value::Value;
+use value::{Candidate, Value};
 
+// What a mark says of a candidate: that it is rejected, or else taken.
 #[derive(Clone, Copy, Debug, PartialEq, Eq)]
 pub struct Mark {
     pub rejects: bool,
-    pub row: usize,
-    pub column: usize,
-    pub value: usize,
+    pub candidate: Candidate,
 }
 
 impl Mark {
@@ -31,9 +30,7 @@ impl Mark {
         let value = usize::from((word >> 3) % 16);
         Mark {
             rejects,
-            row,
-            column,
-            value,
+            candidate: Candidate { row, column, value },
         }
     }
 }
@@ -63,17 +60,17 @@ fn check_mark(n: usize, word: u16) -> Result<(), Refusal>
     requires { Size n }
     ensures { result ≡ checked (check_mark n word) }
 {
-    let m = Mark::unpack(word);
+    let x = Mark::unpack(word).candidate;
     if word % 8 != 0 {
         return Err(Refusal::MarkSpare);
     }
-    if n <= m.row {
+    if n <= x.row {
         return Err(Refusal::MarkPlace);
     }
-    if n <= m.column {
+    if n <= x.column {
         return Err(Refusal::MarkPlace);
     }
-    let v = Value { code: m.value };
+    let v = Value { code: x.value };
     if v.is_named(n) {
         Ok(())
     } else {

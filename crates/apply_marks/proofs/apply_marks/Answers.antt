@@ -13,13 +13,13 @@ pub apply_mark-requires : goal.apply_mark-requires
 apply_mark-requires c =
     let a = c.args in
     let h : 2 * c.loop-i.i < length a.bytes.now = omega arith in
-    mark_asks c.loop-i.i c.loop-i.invariant.1 c.mark_at.ensures h
+    mark_asks c.loop-i.i c.loop-i.invariant c.mark_at.ensures h
 
 pub loop-i-preserved : goal.loop-i-preserved
 loop-i-preserved c =
     let a = c.args in
     let h : 2 * c.loop-i.i < length a.bytes.now = omega arith in
-    (search rules, marks_step c.loop-i.i c.loop-i.invariant.1 c.mark_at.ensures h c.apply_mark.ensures)
+    marks_step c.loop-i.i c.loop-i.invariant c.mark_at.ensures h c.apply_mark.ensures
 
 pub returns : goal.returns
-returns c = marks_done c.loop-i.i c.loop-i.invariant.1 (omega arith)
+returns c = marks_done c.loop-i.i c.loop-i.invariant (omega arith)
