@@ -1,18 +1,11 @@
--- Swaps of records and of numbers. Assumes nothing.
+-- Swaps of numbers. Assumes nothing.
 use Prim.Native.Nat.{ℕ, ◌<◌}
 use mathlib.Core.Path.{◌≡◌, sym, ap, ◌∙◌, subst}
-use mathlib.Core.List.{List, [], ◌∷◌}
+use mathlib.Core.List.{List}
 use native.Mathlib.Decide.{ℕ_discrete}
 use lib.ListN.{length, length-set, get_or, set}
 use lib.Seq.{get_or-set_same, get_or-set_other}
-use Rattle.live_list.specs.declared.Place.{Place}
-use Rattle.live_list.specs.Swap.{none, swapped, exchanged}
-
--- two numbers of a list, taken out as records, swapped, and stored back
-pub two_exchanged : (l : List ℕ) (p q : ℕ) (r : List Place) →
-    r ≡ swapped (record { arrangement = get_or l p 0 } ∷ record { arrangement = get_or l q 0 } ∷ []) 0 1 →
-    set (set l p (get_or r 0 none).arrangement) q (get_or r 1 none).arrangement ≡ exchanged l p q
-two_exchanged l p q r e = ap (λ r. set (set l p (get_or r 0 none).arrangement) q (get_or r 1 none).arrangement) e
+use Rattle.live_list.specs.Swap.{exchanged}
 
 -- what stands where afterwards
 module _ (l : List ℕ) (p q : ℕ) where

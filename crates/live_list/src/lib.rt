@@ -15,35 +15,24 @@ pub fn swap_remove(places: &mut [Place], i: usize, len: usize)
     requires { (i ≤ len) × (len < length places.old) }
     ensures { places.new ≡ swapped places.old i len }
 {
-    let gone = places[i];
-    places[i] = places[len];
-    places[len] = gone;
-}
-
-// The same of two records by value, so that no caller holds a reference to one.
-fn remove_of_two(places: [Place; 2], i: usize, len: usize) -> [Place; 2]
-    requires { (i ≤ len) × (len < 2) }
-    ensures { result ≡ swapped places i len }
-{
-    let mut left = places;
-    swap_remove(&mut left, i, len);
-    left
+    places.swap(i, len);
 }
 
 // The list begins at `at`: its arrangement i leaves, the last one takes its place, and len are left.
+// The state is numbers, so the two places that change are lent as records (docs/DECISIONS.md, 17).
 pub fn remove(st: &mut [u16], at: usize, i: usize, len: usize)
     requires { (i ≤ len) × (at + len < length st.old) }
     ensures { st.new ≡ exchanged st.old (at + i) (at + len) }
 {
-    let gone = Place {
-        arrangement: st[at + i],
-    };
-    let last = Place {
-        arrangement: st[at + len],
-    };
-    let left = remove_of_two([gone, last], 0, 1);
-    let here = left[0];
-    let behind = left[1];
-    st[at + i] = here.arrangement;
-    st[at + len] = behind.arrangement;
+    let mut two = [
+        Place {
+            arrangement: st[at + i],
+        },
+        Place {
+            arrangement: st[at + len],
+        },
+    ];
+    swap_remove(&mut two, 0, 1);
+    st[at + i] = two[0].arrangement;
+    st[at + len] = two[1].arrangement;
 }
