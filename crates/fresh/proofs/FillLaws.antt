@@ -1,31 +1,33 @@
 -- Filling places one after the other. Assumes nothing.
-use Prim.Native.Nat.{ℕ, zero, suc, ◌+◌, ◌*◌, ◌/◌, ◌%◌, ◌≤◌, ◌<◌}
+use Prim.Native.Nat.{ℕ, zero, suc, ◌+◌, ◌-◌, ◌*◌, ◌/◌, ◌%◌, ◌≤◌, ◌<◌}
 use mathlib.Core.Path.{◌≡◌, refl, sym, ◌∙◌}
-use mathlib.Core.Logic.{◌⊎◌, inl, inr, ⊎_elim}
+use mathlib.Core.Logic.{◌⊎◌, inl, inr}
 use mathlib.Core.List.{List}
 use native.Mathlib.Omega.{arith}
 use native.Mathlib.Decide.{ℕ_discrete, dec_lt}
-use lib.ListN.{length, get_or, set, replicate, length-set, length-replicate}
-use lib.Seq.{get_or-set_same, get_or-set_other}
+use lib.ListN.{length, get_or, replicate, length-replicate}
+use borrow.Rule.Slice.PartMut.{put_mid, mid_of}
+use Rattle.std.proofs.lemmas.List.{places}
 use borrow.Author.Tests.{lt-ltb, le-ltb}
 use Rattle.table.specs.Table.{every_value}
 use Rattle.value.specs.Mask.{mask_of}
 use Rattle.queue_state.specs.Layout.{row_half_at, row_blacks_at, lengths_at, slab_size}
-use Rattle.fresh.specs.Fresh.{Filled, Blank, cell_in, RowsFull, Fresh}
+use Rattle.fresh.specs.Fresh.{Blank, cell_in, RowsFull, Fresh}
 
-pub fill_start : (l : List ℕ) (from k : ℕ) → Filled l l from from k
-fill_start l from k = record { size = refl; inside = λ i a b. absurd (omega arith); outside = λ i h. refl }
+-- The places from .. to have the number k, and the others are as before.
+pub record Filled (l l' : List ℕ) (from to k : ℕ) : Type 0 where
+  pub size : length l' ≡ length l
+  pub inside : (i : ℕ) → from ≤ i → i < to → get_or l' i 0 ≡ k
+  pub outside : (i : ℕ) → (i < from) ⊎ (to ≤ i) → get_or l' i 0 ≡ get_or l i 0
 
-pub fill_next : {l l' : List ℕ} {from i k : ℕ} → from ≤ i → i < length l → Filled l l' from i k → Filled l (set l' i k) from (i + 1) k
-fill_next {l} {l'} {from} {i} {k} a b f =
+-- after `l[from..to].fill(k)`
+pub filled : (l part : List ℕ) (from to k : ℕ) → from ≤ to → to ≤ length l → part ≡ replicate (length (mid_of from (to - from) l)) k →
+    Filled l (put_mid from (to - from) l part) from to k
+filled l part from to k h g e =
     record {
-      size = length-set l' i k ∙ f.size;
-      inside = λ j u v.
-          elim (ℕ_discrete j i) [
-            | yes e ↦ rw e (get_or-set_same l' i k 0 (omega (arith, f.size)))
-            | no e ↦ get_or-set_other l' i j k 0 e ∙ f.inside j u (omega arith)
-          ];
-      outside = λ j h. get_or-set_other l' i j k 0 (⊎_elim (λ u. λ e. omega arith) (λ u. λ e. omega arith) h) ∙ f.outside j (⊎_elim (λ u. inl u) (λ u. inr (omega arith)) h);
+      size = grind (arith, places);
+      inside = λ i u v. grind (arith, places);
+      outside = λ i w. elim w [ inl u ↦ grind (arith, places) | inr u ↦ grind (arith, places) ];
     }
 
 zero_at : (n p : ℕ) → get_or {A = ℕ} (replicate n 0) p 0 ≡ 0
@@ -81,13 +83,14 @@ module _ (n full : ℕ) where
           split : (x : ℕ) → (x / 9 ≡ m → ⊥) → (x < m * 9) ⊎ (m * 9 + n ≤ x)
           split x e = elim (dec_lt x (m * 9)) [ yes q ↦ inl q | no q ↦ inr (omega arith) ]
 
-pub fresh_done : {n m : ℕ} {a b c : List ℕ} → RowsFull a n n (mask_of (every_value n)) → Filled a b row_half_at row_blacks_at m → m ≡ n → Filled b c row_blacks_at lengths_at 2 → Fresh n c
-fresh_done {n} {m} {a} {b} {c} r f e g =
+pub fresh_done : {n : ℕ} {a b c : List ℕ} → RowsFull a n n (mask_of (every_value n)) → Filled a b row_half_at row_blacks_at n →
+    Filled b c row_blacks_at lengths_at 2 → Fresh n c
+fresh_done {n} {a} {b} {c} r f g =
     record {
       size = g.size ∙ f.size ∙ r.size;
       cells = λ x h. g.outside x (inl (omega arith)) ∙ f.outside x (inl (omega arith)) ∙ r.cells x h;
       queue = λ p h k. g.outside p (inl (omega arith)) ∙ f.outside p (inl (omega arith)) ∙ r.rest p h;
-      counters = λ p h k. g.outside p (inl (omega arith)) ∙ f.inside p h k ∙ e;
+      counters = λ p h k. g.outside p (inl (omega arith)) ∙ f.inside p h k;
       blacks = λ p h k. g.inside p h k;
       arcs = λ p h. g.outside p (inr h) ∙ f.outside p (inr (omega arith)) ∙ r.rest p (omega arith);
     }

@@ -1,14 +1,8 @@
 -- The state before any strike, place by place. Assumes nothing.
-use Rattle.std.specs.Prelude.{ℕ, ◌/◌, ◌%◌, ◌≤◌, ◌<◌, ◌≡◌, ◌⊎◌, ◌&&◌, cond, List, ltb, length, get_or}
+use Rattle.std.specs.Prelude.{ℕ, ◌/◌, ◌%◌, ◌≤◌, ◌<◌, ◌≡◌, ◌&&◌, cond, List, ltb, length, get_or}
 use Rattle.table.specs.Table.{every_value}
 use Rattle.value.specs.Mask.{mask_of}
 use Rattle.queue_state.specs.Layout.{queue_at, counters_at, row_half_at, row_blacks_at, lengths_at, slab_size}
-
--- The places from .. to have the number k, and the others are as before.
-pub record Filled (l l' : List ℕ) (from to k : ℕ) : Type 0 where
-  pub size : length l' ≡ length l
-  pub inside : (i : ℕ) → from ≤ i → i < to → get_or l' i 0 ≡ k
-  pub outside : (i : ℕ) → (i < from) ⊎ (to ≤ i) → get_or l' i 0 ≡ get_or l i 0
 
 -- The state's memory before anything is in it.
 pub record Blank (l : List ℕ) : Type 0 where

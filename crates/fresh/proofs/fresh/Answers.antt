@@ -1,7 +1,14 @@
 -- `fresh::fresh` meets its contract. Assumes nothing.
-use Rattle.fresh.proofs.FillLaws.{fresh_done}
+use native.Mathlib.Omega.{arith}
+use borrow.Author.Rules.{rules}
+use Rattle.queue_state.specs.Layout.{row_half_at, row_blacks_at, lengths_at}
+use Rattle.fresh.proofs.FillLaws.{Filled, filled, fresh_done}
 use Rattle.fresh.proofs.fresh.Goals as goal
 
 pub returns : goal.returns
 returns c =
-    fresh_done (rw c.full_cell.ensures at c.fill_cells.ensures) c.fill.ensures c.narrow.ensures c.fill-2.ensures
+    let cells = rw c.full_cell.ensures at c.fill_cells.ensures in
+    let counters : Filled c.fill_cells.new.st _ row_half_at row_blacks_at c.args.n =
+    filled _ c.fill.new.self _ _ _ (omega arith) (omega (arith, cells.size)) (c.fill.ensures.after (search rules)) in
+    fresh_done cells counters
+    (filled _ _ row_blacks_at lengths_at _ (omega arith) (omega (arith, counters.size, cells.size)) (c.fill-2.ensures.after (search rules)))
