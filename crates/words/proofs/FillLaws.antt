@@ -8,12 +8,9 @@ use lib.ListN.{length, get_or, set, length-set}
 use lib.Seq.{get_or-set_same, get_or-set_other}
 use Rattle.bits.proofs.BitLaws.{shl_one}
 use Rattle.rules.specs.Size.{Size}
-use Rattle.words.specs.Word.{subset, mask_in, size_in, Known, word_from, word_of, Words}
+use Rattle.words.specs.Word.{subset, mask_in, size_in, Known, word_from, word_of}
 use Rattle.words.proofs.WordFacts.{subset_fits}
 use Rattle.words.specs.Fill.{FillAsk, Filling, WordsFilled}
-
-pub filling_start : (n s : ℕ) (ws : List ℕ) → length ws ≡ 1152 → Filling n s 0 ws ws
-filling_start n s ws e = record { long = e; most = omega arith; each = λ i h. absurd (omega arith); old = λ id h. refl }
 
 module _ {n s x : ℕ} {ws₀ : List ℕ} (a : FillAsk n s x ws₀) where
   pub fill_room : x / 8192 + 2 ≤ n
@@ -41,17 +38,10 @@ module _ {n s x : ℕ} {ws₀ : List ℕ} (a : FillAsk n s x ws₀) where
       one i l (yes q) = rw q (get_or-set_same ws (s * 9 + k) w 0 (omega (arith, g.long, a.among, a.size.high)) ∙ there)
       one i l (no q) = get_or-set_other ws (s * 9 + k) (s * 9 + i) w 0 (λ r. omega arith) ∙ g.each i (omega arith)
 
-pub filling_end : {n s k : ℕ} {ws₀ ws : List ℕ} → Filling n s k ws₀ ws → n ≤ k → WordsFilled n s ws₀ ws
-filling_end g h = record { long = g.long; most = omega arith; each = λ i l. g.each i (omega arith); old = g.old }
-
 -- the words of the subsets below s are there
 pub record FilledTo (n s : ℕ) (ws : List ℕ) : Type 0 where
   pub long : length ws ≡ 1152
-  pub most : s ≤ 128
   pub each : (id : ℕ) → id < s * 9 → Known n id → get_or ws id 0 ≡ word_of n id
-
-pub filled_start : (n : ℕ) (ws : List ℕ) → length ws ≡ 1152 → FilledTo n 0 ws
-filled_start n ws e = record { long = e; most = omega arith; each = λ id h y. absurd (omega arith) }
 
 -- `1 << n - 1` of 16 bits
 pub top_is : (n : ℕ) → Size n → 1 * 2 ^ (n - 1) % 65536 ≡ 2 ^ (n - 1)
@@ -62,7 +52,7 @@ module _ {n s : ℕ} {ws : List ℕ} (z : Size n) (g : FilledTo n s ws) (h : s <
   filled_ask t = record { size = z; among = h; code = refl; digits = rw (top_is n z) at t; long = g.long }
 
   pub filled_next : {ws' : List ℕ} → WordsFilled n s ws ws' → FilledTo n (s + 1) ws'
-  filled_next {ws'} f = record { long = f.long; most = omega arith; each = λ id l y. one id l y (dec_lt id (s * 9)) }
+  filled_next {ws'} f = record { long = f.long; each = λ id l y. one id l y (dec_lt id (s * 9)) }
     where
       one : (id : ℕ) → id < (s + 1) * 9 → Known n id → Dec (id < s * 9) → get_or ws' id 0 ≡ word_of n id
       one id l y (yes b) = f.old id b ∙ g.each id b y
@@ -71,7 +61,7 @@ module _ {n s : ℕ} {ws : List ℕ} (z : Size n) (g : FilledTo n s ws) (h : s <
           rw e at (f.each (id % 9) y.starts)
 
   pub filled_skip : 1 * 2 ^ (n - 1) % 65536 ≤ subset s % 256 → FilledTo n (s + 1) ws
-  filled_skip t = record { long = g.long; most = omega arith; each = λ id l y. one id l y (dec_lt id (s * 9)) }
+  filled_skip t = record { long = g.long; each = λ id l y. one id l y (dec_lt id (s * 9)) }
     where
       one : (id : ℕ) → id < (s + 1) * 9 → Known n id → Dec (id < s * 9) → get_or ws id 0 ≡ word_of n id
       one id l y (yes b) = g.each id b y
@@ -79,6 +69,3 @@ module _ {n s : ℕ} {ws : List ℕ} (z : Size n) (g : FilledTo n s ws) (h : s <
           let e : id / 9 ≡ s = omega arith in
           let m : mask_in s < 2 ^ (n - 1) = rw e at y.digits in
           absurd (omega (arith, top_is n z))
-
-pub filled_end : {n s : ℕ} {ws : List ℕ} → FilledTo n s ws → 128 ≤ s → Words n ws
-filled_end g h = record { size = g.long; each = λ id y. g.each id (omega (arith, y.within)) y }

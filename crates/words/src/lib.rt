@@ -3,12 +3,11 @@
 // places of the line's first and second black in bits 17 to 20 and 21 to 24, and bit 25 if it begins with the second one, around the line's end.
 #![tactic(auto)]
 
-ghost use Rattle.std.specs.Prelude.{◌≡◌, ◌+◌, ◌≤◌, ◌<◌, length};
+ghost use Rattle.std.specs.Prelude.{◌≡◌, ◌+◌, ◌≤◌, ◌<◌, length, eqb, not};
 ghost use Rattle.rules.specs.Size.{Size};
-ghost use Rattle.words.specs.Word.{from_sum, set_of, first_of, second_of, covered_of, inner_places, word_from, from_of, to_of, head_of, last_of, shift_of, on_side, Words};
+ghost use Rattle.words.specs.Word.{from_sum, set_of, first_of, second_of, outside_of, covered_of, from_of, to_of, head_of, last_of, shift_of};
+ghost use Rattle.words.specs.Word.{inner_places, word_from, on_side, Words};
 ghost use Rattle.words.specs.Fill.{FillAsk, WordsFilled};
-
-use value::wide;
 
 #[derive(Clone, Copy)]
 pub struct Subset {
@@ -37,12 +36,12 @@ impl Subset {
 }
 
 // Where the subsets of sum k begin; after the last sum, where they end.
+#[tactic(auto, unfolding(crate::specs::Word::from_sum, crate::specs::Word::sum_table))]
 pub fn from_sum(k: usize) -> usize
     requires { k < 30 }
     ensures { result ≡ from_sum k }
 {
-    let places = Subset::FROM_SUM;
-    places[k]
+    Subset::FROM_SUM[k]
 }
 
 // The set of digits.
@@ -66,49 +65,62 @@ pub fn second_of(w: u32) -> usize
 }
 
 // All places.
+#[tactic(auto, using(crate::proofs::CodeLaws::shl_one), unfolding(crate::specs::Word::covered_of))]
 pub fn covered(w: u32) -> u32
     ensures { result ≡ covered_of w }
 {
     (w / 256 % 512) | (1u32 << first_of(w)) | (1u32 << second_of(w))
 }
 
+// Whether it begins with the second black, around the line's end.
+fn begins_with_second(w: u32) -> bool
+    ensures { result ≡ not (eqb (outside_of w) 0) }
+{
+    w / 33554432 != 0
+}
+
 // Where it begins, and where it ends.
+#[tactic(auto, unfolding(crate::specs::Word::from_of))]
 pub fn from_of(w: u32) -> usize
     ensures { result ≡ from_of w }
 {
-    if w / 33554432 == 0 {
-        first_of(w)
-    } else {
+    if begins_with_second(w) {
         second_of(w)
+    } else {
+        first_of(w)
     }
 }
 
+#[tactic(auto, unfolding(crate::specs::Word::to_of))]
 pub fn to_of(w: u32) -> usize
     ensures { result ≡ to_of w }
 {
-    if w / 33554432 == 0 {
-        second_of(w)
-    } else {
+    if begins_with_second(w) {
         first_of(w)
+    } else {
+        second_of(w)
     }
 }
 
 // The black with which it begins, and with which it ends, in a line whose first black is k.
+#[tactic(auto, unfolding(crate::specs::Word::head_of))]
 pub fn head_of(w: u32, k: usize) -> usize
     requires { k < 16 }
     ensures { result ≡ head_of k w }
 {
-    if w / 33554432 == 0 { k } else { k + 1 }
+    if begins_with_second(w) { k + 1 } else { k }
 }
 
+#[tactic(auto, unfolding(crate::specs::Word::last_of))]
 pub fn last_of(w: u32, k: usize) -> usize
     requires { k < 16 }
     ensures { result ≡ last_of k w }
 {
-    if w / 33554432 == 0 { k + 1 } else { k }
+    if begins_with_second(w) { k } else { k + 1 }
 }
 
 // Where the place of a black begins in a word.
+#[tactic(auto, unfolding(crate::specs::Word::shift_of))]
 pub fn black_shift(first: usize, v: usize) -> u32
     ensures { result ≡ shift_of first v }
 {
@@ -116,6 +128,7 @@ pub fn black_shift(first: usize, v: usize) -> u32
 }
 
 // An arrangement that takes the places before end is an inside one, or an outside one.
+#[tactic(auto, unfolding(crate::specs::Word::on_side))]
 pub fn on_side(n: usize, outside: bool, end: usize) -> bool
     ensures { result ≡ on_side n outside end }
 {
@@ -125,13 +138,15 @@ pub fn on_side(n: usize, outside: bool, end: usize) -> bool
 // The places between the ends.
 fn inner_places(n: usize, len: usize, start: usize) -> u32
     requires { Size n × (len + 2 ≤ n) × (start < n) }
-    ensures { result ≡ inner_places n len start }
+    ensures are { result ≡ inner_places n len start }
+    ensures small { result < 512 }
 {
     let run = ((1u32 << len) - 1) << (start + 1);
     run % (1u32 << n) + (run >> n)
 }
 
 // The word of a set of len digits from a start on.
+#[tactic(auto, unfolding(crate::specs::Word::word_from))]
 fn word(n: usize, set: u32, len: usize, start: usize) -> u32
     requires { Size n × (set < 256) × (len + 2 ≤ n) × (start < n) }
     ensures { result ≡ word_from n set len start }
@@ -139,9 +154,10 @@ fn word(n: usize, set: u32, len: usize, start: usize) -> u32
     let inner = inner_places(n, len, start);
     let end = start + len + 1;
     if end < n {
-        return set + inner * 256 + (start as u32) * 131072 + (end as u32) * 2097152;
+        set + inner * 256 + (start as u32) * 131072 + (end as u32) * 2097152
+    } else {
+        set + inner * 256 + ((end - n) as u32) * 131072 + (start as u32) * 2097152 + 33554432
     }
-    set + inner * 256 + ((end - n) as u32) * 131072 + (start as u32) * 2097152 + 33554432
 }
 
 // The words of subset s, whose code is x: one for each start.
@@ -149,12 +165,10 @@ fn fill_starts(words: &mut [u32], n: usize, s: usize, x: u16)
     requires { FillAsk n s x words.old }
     ensures { WordsFilled n s words.old words.new }
 {
-    let set = (x % 256) as u32;
-    let len = wide(x / 8192);
-    let mut start = 0;
-    while start < n {
+    let set = u32::from(x % 256);
+    let len = usize::from(x / 8192);
+    for start in 0..n {
         words[s * 9 + start] = word(n, set, len, start);
-        start += 1;
     }
 }
 
@@ -164,13 +178,9 @@ pub fn fill_words(words: &mut [u32], n: usize)
     ensures { Words n words.new }
 {
     let top = 1u16 << (n - 1);
-    let subsets = Subset::ALL;
-    let mut s = 0;
-    while s < 128 {
-        let x = subsets[s];
+    for (s, &x) in Subset::ALL.iter().enumerate() {
         if x % 256 < top {
             fill_starts(words, n, s, x);
         }
-        s += 1;
     }
 }

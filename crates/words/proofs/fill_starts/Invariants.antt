@@ -1,10 +1,6 @@
 -- What holds in the loops of `words::fill_starts`, and why they end.
-use Prim.Native.Nat.{◌-◌}
 use Rattle.words.specs.Fill.{Filling}
 use Rattle.words.proofs.fill_starts.Given as goal
 
 abbrev pub invariant-loop-start : goal.invariant-loop-start
 invariant-loop-start l = Filling l.n l.s l.start l.initial.words l.words
-
-abbrev pub decreases-loop-start : goal.decreases-loop-start
-decreases-loop-start l = l.n - l.start

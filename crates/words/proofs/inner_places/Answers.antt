@@ -13,4 +13,6 @@ pub overflow_add-result : goal.overflow_add-result
 overflow_add-result c = Fits-under _ _ 512 (inner_fits _ _ _ c.requires.0 c.requires.1 c.requires.2) tt
 
 pub returns : goal.returns
-returns c = inner_code _ _ _ c.requires.0 c.requires.1 c.requires.2
+returns c =
+    let q = c.requires in
+    record { are = inner_code _ _ _ q.0 q.1 q.2; small = inner_fits _ _ _ q.0 q.1 q.2 }
