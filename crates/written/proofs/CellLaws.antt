@@ -89,9 +89,6 @@ module _ {n : ℕ} {l : List ℕ} {r c : ℕ} (p : WriteCellAsk n l r c) where
     lowest : Lowest 16 (bit_and m 254) t
     lowest = trailing_lowest 16 (bit_and m 254) (and_lt 16 m 254 f (omega arith)) (omega arith)
 
-    pub read_width : t < 16
-    read_width = lowest.in_width
-
     both : (bit t m ≡ 1) × (bit t 254 ≡ 1)
     both = omega (arith, bit_and_lem t m 254, lowest.here, bit_lt t m, bit_lt t 254)
 

@@ -1,5 +1,5 @@
 -- A table and a grid as they are written, row by row. Assumes nothing.
-use Rattle.std.specs.Prelude.{ℕ, ◌+◌, ◌-◌, ◌*◌, ◌/◌, ◌%◌, ◌^◌, ◌≤◌, ◌<◌, ◌≡◌, true, List, ◌++◌, map, get_or, drop}
+use Rattle.std.specs.Prelude.{ℕ, ◌+◌, ◌-◌, ◌*◌, ◌/◌, ◌%◌, ◌^◌, ◌<◌, ◌≡◌, true, List, map, get_or}
 use Rattle.tally.specs.Tally.{span}
 use Rattle.rules.specs.Grid.{cell}
 use Rattle.table.specs.Table.{has_bit, bit_of}
@@ -29,18 +29,8 @@ mask_at n l r c = mask n (get_or l (r * 9 + c) 0)
 abbrev pub cell_byte : ℕ → List ℕ → ℕ → ℕ → ℕ
 cell_byte n l r c = read_cell n (table_in l r c)
 
--- The first n entries are written, and the others are as they were.
-unfoldable pub row_written : ℕ → (ℕ → ℕ) → List ℕ → List ℕ
-row_written n f l = map f (span 0 n) ++ drop n l
-
 -- A cell of the grid.
 pub record WriteCellAsk (n : ℕ) (l : List ℕ) (r c : ℕ) : Type 0 where
   pub ready : Ready n l
   pub row : r < n
   pub column : c < n
-
--- A row of the grid, and room for it.
-pub record WriteRowAsk (n : ℕ) (l : List ℕ) (r room : ℕ) : Type 0 where
-  pub ready : Ready n l
-  pub row : r < n
-  pub long : n ≤ room
