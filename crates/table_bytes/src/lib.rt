@@ -5,7 +5,7 @@ ghost use Rattle.std.specs.Prelude.{◌≡◌, ◌*◌, min, length};
 ghost use Rattle.table.specs.Table.{entries_of};
 ghost use Rattle.table_bytes.specs.Entries.{entry_count, most_lent};
 
-// How many entries of two bytes a table has; with a byte left over, none.
+// How many entries of two bytes a table has; with a byte left over, none. The 0 is a count and no code: such a table is read as the empty list.
 pub fn entry_count(len: usize) -> usize
     ensures { result ≡ entry_count len }
 {
@@ -13,16 +13,14 @@ pub fn entry_count(len: usize) -> usize
 }
 
 // Writes each entry as two bytes, the more significant first.
+#[tactic(auto, using(crate::proofs::EntryLaws::entries_are))]
 pub fn write_entries(entries: &[u16], bytes: &mut [u8])
     requires { length bytes.old ≡ 2 * length entries.now }
     ensures { entries_of bytes.new ≡ entries.now }
 {
-    let mut i = 0;
-    while i < entries.len() {
-        let e = entries[i];
-        bytes[2 * i] = (e / 256) as u8;
-        bytes[2 * i + 1] = (e % 256) as u8;
-        i += 1;
+    // After a zip with chunks_exact_mut the check knows how long the bytes are, and not what they hold.
+    for (i, e) in entries.iter().enumerate() {
+        bytes[2 * i..2 * i + 2].copy_from_slice(&e.to_be_bytes());
     }
 }
 
@@ -33,6 +31,5 @@ pub const MOST_LENT: usize = 82;
 pub fn lent_count(len: usize) -> usize
     ensures { result ≡ min (entry_count len) most_lent }
 {
-    let count = entry_count(len);
-    if count < MOST_LENT { count } else { MOST_LENT }
+    entry_count(len).min(MOST_LENT)
 }

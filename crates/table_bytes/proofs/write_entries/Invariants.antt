@@ -1,11 +1,6 @@
--- What holds in the loops of `table_bytes::write_entries`, and why they end.
-use Prim.Native.Nat.{◌-◌, ◌≤◌}
-use lib.ListN.{length}
-use Rattle.table_bytes.proofs.EntryLaws.{EntriesFilled}
+-- What holds in the loop of `table_bytes::write_entries`: the first i entries are written.
+use Rattle.std.proofs.Common.{◌≡◌, ℕ, ◌+◌, ◌*◌, ◌<◌, get_or}
 use Rattle.table_bytes.proofs.write_entries.Given as goal
 
 abbrev pub invariant-loop-i : goal.invariant-loop-i
-invariant-loop-i l = (l.i ≤ length l.entries) × EntriesFilled l.entries l.initial.bytes l.bytes l.i
-
-abbrev pub decreases-loop-i : goal.decreases-loop-i
-decreases-loop-i l = length l.entries - l.i
+invariant-loop-i l = (j : ℕ) → j < l.i → get_or l.bytes (2 * j) 0 * 256 + get_or l.bytes (2 * j + 1) 0 ≡ get_or l.entries j 0
