@@ -12,18 +12,16 @@ use queue_state::{Slab, clear_mask};
 use value::Value;
 
 // The values that no live arrangement of a line has at place p, as a mask.
-#[tactic(auto, using(crate::proofs::SeedLaws::lacks_more, crate::proofs::SeedLaws::lacks_same))]
+#[tactic(auto, using(crate::proofs::SeedLaws::lacks_start, crate::proofs::SeedLaws::lacks_more, crate::proofs::SeedLaws::lacks_same))]
 fn unsupported(st: &[u16], line: usize, p: usize) -> u16
     requires { (length st.now ≡ slab_size) × (line < 18) × (p < 9) }
     ensures { Lacks st.now (line * 9 + p) 12 result }
 {
     let mut m = 0u16;
-    let mut v = 0;
-    while v < 12 {
+    for v in 0..12 {
         if st[Slab::SUPPORT + (line * 9 + p) * 16 + v] == 0 {
-            m = m | (1u16 << v);
+            m |= 1u16 << v;
         }
-        v += 1;
     }
     m
 }
@@ -49,10 +47,8 @@ fn seed_row(st: &mut [u16], n: usize, r: usize)
     requires { Sized st.old × (n ≤ 9) × (r < 9) }
     ensures { Struck st.old st.new (BareIn st.old r n) }
 {
-    let mut c = 0;
-    while c < n {
+    for c in 0..n {
         seed_cell(st, r, c);
-        c += 1;
     }
 }
 
@@ -61,10 +57,8 @@ fn seed_queue(st: &mut [u16], n: usize)
     requires { Sized st.old × (n ≤ 9) }
     ensures { Struck st.old st.new (BareTo st.old n n) }
 {
-    let mut r = 0;
-    while r < n {
+    for r in 0..n {
         seed_row(st, n, r);
-        r += 1;
     }
 }
 
