@@ -21,7 +21,6 @@ use Rattle.arcs.specs.Arc.{support}
 use Rattle.table.specs.Lines.{black_at}
 use Rattle.arcs.specs.Sunk.{Sunk, single, DropAsk}
 use Rattle.arcs.proofs.SunkLaws.{slot_cell, sunk_as, sunk_both}
-use Rattle.arcs.proofs.WalkLaws.{placed_small}
 use Rattle.arcs.specs.Kill.{parts, inners, InnerAsk, KillAsk}
 
 pub black_low : (ℓ : ℕ) → 8 ≤ black_at ℓ
@@ -64,12 +63,6 @@ module _ {n line w : ℕ} {lane : Lane} {l : List ℕ} (a : KillAsk n line lane 
   -- the code's sums fit
   pub kill_black : lane.first < 16
   kill_black = omega (arith, a.black, black_high line)
-
-  pub kill_from : (f : ℕ) → f ≡ from_of w → (line < 18) × (f < 9) × (lane.start + f * lane.stride < 81)
-  kill_from f e = (a.placed.within, omega (arith, from_narrow), placed_small a.placed f (omega (arith, from_narrow)))
-
-  pub kill_to : (t : ℕ) → t ≡ to_of w → (line < 18) × (t < 9) × (lane.start + t * lane.stride < 81)
-  kill_to t e = (a.placed.within, omega (arith, to_narrow), placed_small a.placed t (omega (arith, to_narrow)))
 
   from_to : from_of w ≡ to_of w → ⊥
   from_to e = omega (arith, a.shaped.apart, steps_none n (from_of w), ap (steps n (from_of w)) e)

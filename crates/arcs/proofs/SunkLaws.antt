@@ -9,7 +9,7 @@ use lib.Seq.{get_or-set_same, get_or-set_other}
 use borrow.Author.Tests.{lt-ltb, le-ltb}
 use Rattle.bits.proofs.SumLaws.{same_yes, same_no}
 use Rattle.queue_state.specs.Layout.{counters_at, support_place}
-use Rattle.queue_state.specs.Slab.{cand, Sized, Grown, Struck, One, CounterAsk}
+use Rattle.queue_state.specs.Slab.{cand, Sized, Grown, Struck, One}
 use Rattle.queue_state.proofs.SlabLaws.{cand_lt}
 use Rattle.queue_state.proofs.StruckLaws.{grown_refl, grown_trans, grown_sized, grown_gone, set_cand, set_grown}
 use Rattle.arcs.specs.Arc.{support}
@@ -102,9 +102,6 @@ module _ {l : List ℕ} {place cell v : ℕ} (a : DropAsk l place cell v) where
 
   k : ℕ
   k = get_or l index 0 - 1
-
-  pub drop_countable : CounterAsk l (support_place place v)
-  drop_countable = record { size = a.sized.size; from = omega arith; to = omega (arith, a.within, a.value); positive = a.positive }
 
   low_grown : Grown l (set l index k)
   unfolding index

@@ -1,14 +1,17 @@
 -- The sweep of a line, one arrangement after the other. Assumes nothing.
-use Prim.Native.Nat.{ℕ, ◌+◌, ◌-◌, ◌*◌, ◌≤◌, ◌<◌}
+use Prim.Native.Nat.{ℕ, suc, ◌+◌, ◌-◌, ◌*◌, ◌≤◌, ◌<◌}
 use mathlib.Core.Path.{◌≡◌, refl, sym, ap, ◌∙◌, subst}
 use mathlib.Core.Logic.{◌⊎◌, inl, inr}
 use mathlib.Core.Bool.{Bool}
 use mathlib.Core.List.{List}
 use native.Mathlib.Omega.{arith}
-use native.Mathlib.Decide.{ℕ_discrete}
+use native.Mathlib.Decide.{ℕ_discrete, dec_lt}
 use lib.ListN.{length, get_or, set}
 use lib.Seq.{get_or-set_same, get_or-set_other}
+use Rattle.bits.specs.Sum.{sum_over}
+use Rattle.bits.proofs.SumLaws.{sum_none}
 use Rattle.rules.specs.Size.{Size}
+use Rattle.table.specs.Value.{HalfOf}
 use Rattle.queue_state.specs.Layout.{length_place, per_line, live_place, support_place, slab_size}
 use Rattle.queue_state.specs.Slab.{cand, Sized, Grown}
 use Rattle.queue_state.proofs.StruckLaws.{grown_refl, grown_trans, set_cand, set_grown}
@@ -16,11 +19,12 @@ use Rattle.queue_state.proofs.ReadyLaws.{ready_grown, next_grown}
 use Rattle.queue_state.specs.Ready.{Ready, Next}
 use Rattle.lane.specs.declared.Lane.{Lane}
 use Rattle.words.specs.Word.{Known, word_of, part}
+use Rattle.words.proofs.PatternLaws.{part_other}
 use Rattle.arcs.specs.Arc.{lives, live, support, Tallied, Alive, DeadArrangement, Listed, Fewer, Older, Held, Holding}
 use Rattle.table.specs.Lines.{cell_at, black_at}
 use Rattle.arcs.proofs.LineLaws.{line_in, dead_kept, sum_each}
 use Rattle.arcs.proofs.AliveLaws.{cell_once, alive_kept, alive_next, tallied_same, within_refl, within_trans, holding_drop}
-use Rattle.arcs.specs.Sweep.{RemoveAsk, Removed, Outlives, untouched, Aging, AllAlive, SweepAsk, Sweeping, Swept, LineDone}
+use Rattle.arcs.specs.Sweep.{RemoveAsk, Removed, Outlives, untouched, Aging, AllAlive, SweepAsk, Sweeping, Swept, LineAsk, LineDone}
 
 module _ {n ℓ p v : ℕ} {lane : Lane} {ws l₀ : List ℕ} (a : SweepAsk n ℓ lane p v ws l₀) where
   z : Size n
@@ -136,20 +140,6 @@ module _ {n ℓ p v : ℕ} {lane : Lane} {ws l₀ : List ℕ} (a : SweepAsk n �
               subst (Alive n ℓ l' h) (sym (r.stays j (omega (arith, s.tallied.room)) o))
               (alive_kept n ℓ (live l ℓ j) h r.within.grown (omega (arith, (next h x).waiting)) (g.todo j c (omega arith)))
 
-  pub sweep_end : {l : List ℕ} {i len : ℕ} → Sweeping n ℓ p v l₀ l i len → len ≤ i → Swept n ℓ p v l₀ l len
-  sweep_end s b =
-      record {
-        among = omega arith;
-        within = s.within;
-        tallied = s.tallied;
-        fewer = s.fewer;
-        older = s.older;
-        holds = s.holds;
-        aging = λ h x f.
-            let g = s.aging h x f in
-            record { done = λ j c. g.done j (omega arith); todo = λ j c d. absurd (omega arith) };
-      }
-
   -- ---- the number of those that are left is stored
 
   module _ {l : List ℕ} {len : ℕ} (s : Swept n ℓ p v l₀ l len) where
@@ -222,7 +212,38 @@ module _ {n ℓ p v : ℕ} {lane : Lane} {ws l₀ : List ℕ} (a : SweepAsk n �
         gone (inl k) = inl (record { index = k.index; among = omega (arith, k.among, count); is = list k.index ∙ k.is })
         gone (inr k) = inr (dead_kept grown k)
 
-  -- ---- no live arrangement has the value at the place
+-- ---- with support the value is one of the line's half, and without it no live arrangement has it at the place
+
+module _ {n ℓ p v : ℕ} {lane : Lane} {ws l₀ : List ℕ} (a : LineAsk n ℓ lane p v ws l₀) where
+  -- the supports that the code reads
+  line_bounds : (ℓ < 18) × (p < 9) × (length l₀ ≡ slab_size)
+  line_bounds = (line_in a.ready.size a.of, omega (arith, a.place, a.ready.size.high), a.ready.sized.size)
+
+  supported : support l₀ (ℓ * 9 + p) v ≡ sum_over 0 (lives l₀ ℓ) (λ j. part (black_at ℓ) (word_of n (live l₀ ℓ j)) p v)
+  supported = a.tallied.supports p v line_bounds.1 a.narrow
+
+  pub line_asked : (support l₀ (ℓ * 9 + p) v ≡ 0 → ⊥) → SweepAsk n ℓ lane p v ws l₀
+  unfolding HalfOf
+  line_asked d =
+      record {
+        ready = a.ready;
+        words = a.words;
+        of = a.of;
+        placed = a.placed;
+        black = a.black;
+        place = a.place;
+        narrow = a.narrow;
+        half = half (dec_lt v 8) (ℕ_discrete v (black_at ℓ)) (ℕ_discrete v (suc (black_at ℓ)));
+        gone = a.gone;
+        tallied = a.tallied;
+      }
+    where
+      half : Dec (v < 8) → Dec (v ≡ black_at ℓ) → Dec (v ≡ suc (black_at ℓ)) → (v < 8) ⊎ ((black_at ℓ ≤ v) × (v < black_at ℓ + 2))
+      half (yes b) _ _ = inl b
+      half (no b) (yes e) _ = inr (omega arith, omega arith)
+      half (no b) (no e) (yes f) = inr (omega arith, omega arith)
+      half (no b) (no e) (no f) =
+          absurd (d (supported ∙ sum_none 0 (lives l₀ ℓ) _ (λ j _ _. part_other (black_at ℓ) (word_of n (live l₀ ℓ j)) p v (omega arith) e f)))
 
   pub line_skipped : support l₀ (ℓ * 9 + p) v ≡ 0 → LineDone n ℓ p v l₀ l₀
   unfolding Fewer Older AllAlive
@@ -243,4 +264,4 @@ module _ {n ℓ p v : ℕ} {lane : Lane} {ws l₀ : List ℕ} (a : SweepAsk n �
       none : (q : ℕ) → q ≡ p → (j : ℕ) → j < lives l₀ ℓ → part (black_at ℓ) (word_of n (live l₀ ℓ j)) q v ≡ 0
       none q o j b =
           ap (λ q. part (black_at ℓ) (word_of n (live l₀ ℓ j)) q v) o
-          ∙ sum_each (lives l₀ ℓ) (λ j. part (black_at ℓ) (word_of n (live l₀ ℓ j)) p v) (sym (a.tallied.supports p v sweep_place a.narrow) ∙ e) j b
+          ∙ sum_each (lives l₀ ℓ) (λ j. part (black_at ℓ) (word_of n (live l₀ ℓ j)) p v) (sym supported ∙ e) j b

@@ -5,13 +5,12 @@ use mathlib.Core.Logic.{⊎_elim}
 use mathlib.Core.Bool.{Bool, true, false}
 use mathlib.Core.List.{List}
 use native.Mathlib.Omega.{arith}
-use lib.ListN.{length, get_or}
+use lib.ListN.{get_or}
 use Rattle.bits.specs.Sum.{same}
 use Rattle.bits.proofs.SumLaws.{same_yes, same_no}
 use Rattle.queue_state.proofs.StruckLaws.{grown_gone}
 use Rattle.lane.specs.declared.Lane.{Lane}
 use Rattle.words.specs.Word.{word_of, part, shift_of}
-use Rattle.queue_state.specs.Layout.{per_line, slab_size}
 use Rattle.arcs.specs.Arc.{live}
 use Rattle.table.specs.Value.{HalfOf}
 use Rattle.table.specs.Lines.{cell_at, black_at}
@@ -35,10 +34,6 @@ module _ {n ℓ p v : ℕ} {lane : Lane} {ws l₀ : List ℕ} (a : SweepAsk n �
       record { size = a.ready.sized.size; high = a.ready.size.high; narrow = a.narrow; cells = λ q h. placed_small a.placed q h }
 
   module _ {l : List ℕ} {i len : ℕ} (s : Sweeping n ℓ p v l₀ l i len) (b : i < len) where
-    pub sweep_read : (ℓ < 18) × (i < per_line) × (length l ≡ slab_size) × (live l ℓ i < length ws)
-    sweep_read =
-        (sweep_line a, omega (arith, (sweep_bounds a s).0), (sweep_bounds a s).1, omega (arith, (sweep_known a s b).within, a.words.size))
-
     pub sweep_word : (w : ℕ) → w ≡ get_or ws (live l ℓ i) 0 → w ≡ word_of n (live l ℓ i)
     sweep_word w e = e ∙ a.words.each (live l ℓ i) (sweep_known a s b)
 

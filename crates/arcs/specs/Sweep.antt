@@ -91,6 +91,18 @@ Swept n ℓ p v l₀ l len = Sweeping n ℓ p v l₀ l len len
 
 -- ---- a line is handled
 
+-- What handling the strike of v at place p of line ℓ needs, where v may be a value of the other half.
+pub record LineAsk (n line : ℕ) (lane : Lane) (p v : ℕ) (ws l : List ℕ) : Type 0 where
+  pub ready : Ready n l
+  pub words : Words n ws
+  pub of : LineOf n line
+  pub placed : Placed line lane
+  pub black : lane.first ≡ black_at line
+  pub place : p < n
+  pub narrow : v < 16
+  pub gone : cand l (cell_at line p) v ≡ 0
+  pub tallied : Tallied n line (lives l line) l
+
 -- The list and supports of line m are as they were.
 pub record Same (m : ℕ) (l l' : List ℕ) : Type 0 where
   pub count : lives l' m ≡ lives l m

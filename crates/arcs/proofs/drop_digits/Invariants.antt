@@ -1,9 +1,7 @@
--- What holds in the loops of `arcs::drop_digits`, and why they end.
+-- What holds in the loop of `arcs::drop_digits`.
+use Prim.Native.Nat.{◌+◌, ◌*◌}
 use Rattle.arcs.proofs.DigitLaws.{Dropping}
 use Rattle.arcs.proofs.drop_digits.Given as goal
 
-abbrev pub invariant-loop-rest : goal.invariant-loop-rest
-invariant-loop-rest l = Dropping l.initial.st l.st l.place l.cell l.set l.rest
-
-abbrev pub decreases-loop-rest : goal.decreases-loop-rest
-decreases-loop-rest l = l.rest
+abbrev pub invariant-loop-v : goal.invariant-loop-v
+invariant-loop-v l = Dropping l.initial.st l.st (l.lane.number * 9 + l.p) (l.lane.start + l.p * l.lane.stride) l.set l.v-iterator.rest

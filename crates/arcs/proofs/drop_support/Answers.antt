@@ -1,9 +1,7 @@
 -- `arcs::drop_support` meets its contract. Assumes nothing.
-use Rattle.arcs.proofs.SunkLaws.{drop_countable, drop_clear, drop_stays, drop_strikes}
+use native.Mathlib.Omega.{arith}
+use Rattle.arcs.proofs.SunkLaws.{slot_in, drop_clear, drop_stays, drop_strikes}
 use Rattle.arcs.proofs.drop_support.Goals as goal
-
-pub lower-requires : goal.lower-requires
-lower-requires c = drop_countable c.requires
 
 pub clear_value-requires : goal.clear_value-requires
 clear_value-requires c = drop_clear c.requires c.lower.ensures
@@ -14,3 +12,9 @@ returns-then-lower-eq0 c =
 
 pub returns-else-lower-eq0 : goal.returns-else-lower-eq0
 returns-else-lower-eq0 c = drop_stays c.requires c.lower.ensures c.if-lower-eq0.false
+
+pub overflow_mul-p : goal.overflow_mul-p
+overflow_mul-p c = omega (arith, c.requires.there, slot_in _ c.requires.within)
+
+pub overflow_add-lane-then-lower-eq0 : goal.overflow_add-lane-then-lower-eq0
+overflow_add-lane-then-lower-eq0 c = omega (arith, c.requires.there, slot_in _ c.requires.within)

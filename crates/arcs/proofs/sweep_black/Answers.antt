@@ -1,16 +1,12 @@
 -- `arcs::sweep_black` meets its contract. Assumes nothing.
 use mathlib.Core.Path.{refl}
-use Rattle.arcs.proofs.SweepSteps.{sweep_read, sweep_word, black_keep, black_drop}
+use Rattle.arcs.proofs.SweepSteps.{sweep_word, black_keep, black_drop}
 use Rattle.words.proofs.SideLaws.{shift_small}
-use Rattle.arcs.proofs.SweepLaws.{sweep_start, sweep_ask, sweep_end}
+use Rattle.arcs.proofs.SweepLaws.{sweep_start, sweep_ask}
 use Rattle.arcs.proofs.sweep_black.Goals as goal
 
 pub loop-i-init : goal.loop-i-init
-loop-i-init c = sweep_start c.requires.0 _ c.wide-len.ensures
-
-pub word_at-w-requires : goal.word_at-w-requires
-word_at-w-requires c =
-    sweep_read c.requires.0 c.loop-i.invariant c.loop-i-test.true
+loop-i-init c = sweep_start c.requires.0 _ c.from-len.ensures
 
 pub overflow_shr-w : goal.overflow_shr-w
 overflow_shr-w c = shift_small _ _ _ c.black_shift-shift.ensures
@@ -31,6 +27,3 @@ pub loop-i-preserved : goal.loop-i-preserved
 loop-i-preserved c =
     black_keep c.requires.0 c.loop-i.invariant c.loop-i-test.true _ _ _ c.requires.1
     c.word_at-w.ensures c.black_shift-shift.ensures refl c.if-w-shift.false
-
-pub returns : goal.returns
-returns c = sweep_end c.requires.0 c.loop-i.invariant c.loop-i-test.false
