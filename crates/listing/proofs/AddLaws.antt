@@ -214,32 +214,41 @@ module _ (f : ℕ → List ℕ) (ok : ℕ → Bool) (a m : ℕ) {n ℓ k : ℕ} 
   pub scan_done : m ≤ a → Added n ℓ l₀ l whole
   scan_done h = adding_end (rw (scan_end f ok a m h) at d)
 
--- the starts of a subset
-module _ {n ℓ k : ℕ} {ws l₀ l whole : List ℕ} (outside : Bool) (s len a : ℕ) (d : Adding n ℓ k ws l₀ l (starts_from n outside s len a) whole) where
-  pub starts_ask : StartsAsk n s len → (b : Bool) → b ≡ on_side n outside (a + len + 2) → a < n → b ≡ true →
-      AddAsk n ℓ k ws l ((s * 9 + a) ∷ []) × Known n (s * 9 + a)
+-- the starts of a subset: len is what the code reads as its size
+module _ {n ℓ k : ℕ} {ws l₀ l whole : List ℕ} (outside : Bool) (s len a : ℕ) (d : Adding n ℓ k ws l₀ l (starts_from n outside s (size_in s) a) whole)
+    (f : len ≡ size_in s) (b : Bool) (e : b ≡ on_side n outside (a + len + 2)) (h : a < n) where
+  passes : on_side n outside (a + size_in s + 2) ≡ b
+  passes = rw f at (sym e)
+
+  pub starts_ask : StartsAsk n s (size_in s) → b ≡ true → AddAsk n ℓ k ws l ((s * 9 + a) ∷ []) × Known n (s * 9 + a)
   unfolding starts_from
-  starts_ask q b e h t =
+  starts_ask q t =
       let z = d.ask.size in
       let u : (s * 9 + a) / 9 ≡ s = omega (arith, z.high) in
       let v : (s * 9 + a) % 9 ≡ a = omega (arith, z.high) in
-      (scan_ask _ _ a n d h (sym e ∙ t), record { within = omega (arith, q.among, z.high); starts = rw v h; digits = rw u q.digits })
+      (scan_ask _ _ a n d h (passes ∙ t), record { within = omega (arith, q.among, z.high); starts = rw v h; digits = rw u q.digits })
 
-  pub starts_next : (b : Bool) → b ≡ on_side n outside (a + len + 2) → a < n → b ≡ true → {l' : List ℕ} → Added n ℓ l l' ((s * 9 + a) ∷ []) →
-      Adding n ℓ k ws l₀ l' (starts_from n outside s len (a + 1)) whole
+  pub starts_next : b ≡ true → {l' : List ℕ} → Added n ℓ l l' ((s * 9 + a) ∷ []) → Adding n ℓ k ws l₀ l' (starts_from n outside s (size_in s) (a + 1)) whole
   unfolding starts_from
-  starts_next b e h t r = scan_next _ _ a n d h (sym e ∙ t) r
+  starts_next t r = scan_next _ _ a n d h (passes ∙ t) r
 
-  pub starts_skip : (b : Bool) → b ≡ on_side n outside (a + len + 2) → a < n → b ≡ false → Adding n ℓ k ws l₀ l (starts_from n outside s len (a + 1)) whole
+  pub starts_skip : b ≡ false → Adding n ℓ k ws l₀ l (starts_from n outside s (size_in s) (a + 1)) whole
   unfolding starts_from
-  starts_skip b e h t = scan_skip _ _ a n d h (sym e ∙ t)
+  starts_skip t = scan_skip _ _ a n d h (passes ∙ t)
 
-  pub starts_end : n ≤ a → Added n ℓ l₀ l whole
-  unfolding starts_from
-  starts_end h = scan_done _ _ a n d h
+pub starts_end : {n ℓ k : ℕ} {ws l₀ l whole : List ℕ} (outside : Bool) (s len a : ℕ) → Adding n ℓ k ws l₀ l (starts_from n outside s len a) whole → n ≤ a →
+    Added n ℓ l₀ l whole
+unfolding starts_from
+starts_end outside s len a d h = scan_done _ _ a _ d h
 
--- the subsets of one side
-module _ {n ℓ k : ℕ} {ws l₀ l whole : List ℕ} (outside : Bool) (s m : ℕ) (d : Adding n ℓ k ws l₀ l (side_from n outside s m) whole) (h : s < m) where
+-- those of one sum: the subsets from .. to
+pub sum_start : {n ℓ k : ℕ} {ws l : List ℕ} (outside : Bool) (want from : ℕ) → from ≡ from_sum want → AddAsk n ℓ k ws l (side_of n outside want) →
+    Adding n ℓ k ws l l (side_from n outside from (from_sum (want + 1))) (side_of n outside want)
+unfolding side_of
+sum_start outside want from e a = rw e (adding_start a)
+
+module _ {n ℓ k : ℕ} {ws l₀ l whole : List ℕ} (outside : Bool) (want s to : ℕ) (d : Adding n ℓ k ws l₀ l (side_from n outside s (from_sum (want + 1))) whole)
+    (e : to ≡ from_sum (want + 1)) where
   top : 1 * 2 ^ (n - 1) % 65536 ≡ 2 ^ (n - 1)
   top = top_is n d.ask.size
 
@@ -247,35 +256,26 @@ module _ {n ℓ k : ℕ} {ws l₀ l whole : List ℕ} (outside : Bool) (s m : �
   unfolding of_size
   fits t = lt-ltb (mask_in s) (2 ^ (n - 1)) (rw top at t)
 
-  pub side_ask : m ≤ 128 → mask_in s < 1 * 2 ^ (n - 1) % 65536 → (len : ℕ) → len ≡ size_in s →
-      AddAsk n ℓ k ws l (starts_from n outside s len 0) × StartsAsk n s len
+  pub sum_low : s < to → want < 29 → s < 128
+  sum_low h b = omega (arith, from_sum_most (want + 1) (omega arith))
+
+  pub sum_ask : s < to → want < 29 → mask_in s < 1 * 2 ^ (n - 1) % 65536 →
+      AddAsk n ℓ k ws l (starts_from n outside s (size_in s) 0) × StartsAsk n s (size_in s)
   unfolding side_from
-  side_ask b t len f =
-      let i : s < 128 = omega arith in
+  sum_ask h b t =
+      let i = sum_low h b in
       let q : mask_in s < 2 ^ (n - 1) = rw top at t in
-      rw f (scan_ask _ _ s m d h (fits t), record { among = i; digits = q; few = subset_fits s i n d.ask.size q })
+      (scan_ask _ _ s _ d (omega arith) (fits t), record { among = i; digits = q; few = subset_fits s i n d.ask.size q })
 
-  pub side_next : mask_in s < 1 * 2 ^ (n - 1) % 65536 → (len : ℕ) → len ≡ size_in s → {l' : List ℕ} →
-      Added n ℓ l l' (starts_from n outside s len 0) → Adding n ℓ k ws l₀ l' (side_from n outside (s + 1) m) whole
+  pub sum_next : s < to → mask_in s < 1 * 2 ^ (n - 1) % 65536 → {l' : List ℕ} → Added n ℓ l l' (starts_from n outside s (size_in s) 0) →
+      Adding n ℓ k ws l₀ l' (side_from n outside (s + 1) (from_sum (want + 1))) whole
   unfolding side_from
-  side_next t len f r = scan_next _ _ s m d h (fits t) (rw f at r)
+  sum_next h t r = scan_next _ _ s _ d (omega arith) (fits t) r
 
-  pub side_skip : 1 * 2 ^ (n - 1) % 65536 ≤ mask_in s → Adding n ℓ k ws l₀ l (side_from n outside (s + 1) m) whole
+  pub sum_skip : s < to → 1 * 2 ^ (n - 1) % 65536 ≤ mask_in s → Adding n ℓ k ws l₀ l (side_from n outside (s + 1) (from_sum (want + 1))) whole
   unfolding side_from of_size
-  side_skip t = scan_skip _ _ s m d h (le-ltb (mask_in s) (2 ^ (n - 1)) (rw top at t))
+  sum_skip h t = scan_skip _ _ s _ d (omega arith) (le-ltb (mask_in s) (2 ^ (n - 1)) (rw top at t))
 
-pub side_end : {n ℓ k : ℕ} {ws l₀ l whole : List ℕ} (outside : Bool) (s m : ℕ) → Adding n ℓ k ws l₀ l (side_from n outside s m) whole → m ≤ s →
-    Added n ℓ l₀ l whole
-unfolding side_from
-side_end outside s m d h = scan_done _ _ s m d h
-
--- those of one sum
-module _ {n ℓ : ℕ} {l : List ℕ} (outside : Bool) (want from to : ℕ) (e : from ≡ from_sum want) (f : to ≡ from_sum (want + 1)) where
-  pub sum_ask : {k : ℕ} {ws : List ℕ} → AddAsk n ℓ k ws l (side_of n outside want) × (want < 29) →
-      AddAsk n ℓ k ws l (side_from n outside from to) × (to ≤ 128)
-  unfolding side_of
-  sum_ask a = rw (e, f) (a.0, from_sum_most (want + 1) (omega (arith, a.1)))
-
-  pub sum_added : {l' : List ℕ} → Added n ℓ l l' (side_from n outside from to) → Added n ℓ l l' (side_of n outside want)
-  unfolding side_of
-  sum_added r = rw (e, f) at r
+  pub sum_end : to ≤ s → Added n ℓ l₀ l whole
+  unfolding side_from
+  sum_end h = scan_done _ _ s _ d (omega arith)

@@ -1,12 +1,12 @@
 -- The lines list their arrangements, one after the other. Assumes nothing.
 use Prim.Native.Nat.{ℕ, zero, suc, ◌+◌, ◌-◌, ◌*◌, ◌≤◌, ◌<◌}
-use mathlib.Core.Path.{◌≡◌, refl, sym, ap, ◌∙◌}
+use mathlib.Core.Path.{◌≡◌, sym, ap, ◌∙◌}
 use mathlib.Core.Logic.{⊎_elim}
 use mathlib.Core.Bool.{true, false}
 use mathlib.Core.List.{List, ◌++◌, map, map-map}
 use native.Mathlib.Omega.{arith}
 use native.Mathlib.Decide.{ℕ_discrete}
-use lib.ListN.{get_or}
+use lib.ListN.{length, get_or}
 use borrow.Author.Tests.{lt-ltb, le-ltb}
 use Rattle.tally.specs.Tally.{span}
 use Rattle.tally.specs.Tally as tally
@@ -15,6 +15,8 @@ use Rattle.bits.proofs.SumLaws.{sum_zero, sum_first, sum_same}
 use Rattle.rules.specs.Size.{Size}
 use Rattle.rules.specs.Check.{max_target}
 use Rattle.rules.proofs.SizeLaws.{target_most}
+use Rattle.lane.specs.declared.Lane.{Lane}
+use Rattle.lane.specs.Lanes.{row_lane, column_lane}
 use Rattle.words.specs.Word.{arrangement_of, word_of, part}
 use Rattle.fresh.specs.Fresh.{Fresh}
 use Rattle.arcs.specs.Arc.{lives, live, support}
@@ -22,7 +24,7 @@ use Rattle.table.specs.Lines.{black_at, LineOf}
 use Rattle.queue_state.specs.Layout.{lengths_at, length_place, per_line, live_place, support_place}
 use Rattle.listing.specs.Numbers.{side_of, numbers_for}
 use Rattle.listing.proofs.NumberFacts.{numbers_few, numbers_are, numbers_known}
-use Rattle.listing.specs.Listing.{list_of, Elsewhere, Added, AddAsk, Unlisted, Lists, LinesAsk, LinesTo, target_at, OpenAsk, LinesListed}
+use Rattle.listing.specs.Listing.{list_of, Elsewhere, Added, AddAsk, Unlisted, Lists, target_at, OpenAsk, LinesListed}
 use Rattle.listing.proofs.AddLaws.{map_same, added_lives, added_both, addable_first, addable_after}
 
 -- ---- one line: the inside ones, then the outside ones
@@ -109,110 +111,130 @@ module _ (ℓ : ℕ) (l l' : List ℕ) (h : ℓ < 18) (e : (q : ℕ) → lengths
           ap (λ m. map (λ j. live l' ℓ j) (span 0 m)) lives_kept
           ∙ map_same (λ j. live l' ℓ j) (λ j. live l ℓ j) 0 (lives l ℓ) (λ j x y. live_kept j (omega (arith, a.room)))
 
--- ---- one line after the other
-
-pub lines_start : (n from : ℕ) (ts l : List ℕ) → LinesTo n from 0 ts l l
-lines_start n from ts l = record { size = refl; each = λ i h. absurd (omega arith); rest = λ q h. refl }
-
-module _ {n from k : ℕ} {ws ts l l' : List ℕ} (a : LinesAsk n from k ws ts l) (i : ℕ) (h : i < n) (d : LinesTo n from i ts l l')
-    (t : ℕ) (e : t ≡ get_or ts i 0) where
-  within : t ≤ max_target n
-  within = omega (arith, a.within i h)
-
-  still : Unlisted (from + i) l'
-  still =
-      unlisted_kept (from + i) l l' (omega (arith, a.lines))
-      (λ q _ f. d.rest q (λ j x. f (from + j) (omega (arith, a.lines)) (λ y. omega arith)))
-      (a.unlisted i h)
-
-  pub lines_ask : AddAsk n (from + i) k ws l' (numbers_for n t) × (t ≤ max_target n)
-  lines_ask = (
-    record {
-      size = a.size;
-      words = a.words;
-      line = omega (arith, a.lines);
-      black = a.black i h;
-      long = d.size ∙ a.long;
-      room = omega (arith, still.none, numbers_few n t a.size within);
-      low = λ p v x y. omega (arith, still.supports p v x y);
-    },
-    within,
-  )
-
-  pub lines_next : {l'' : List ℕ} → Added n (from + i) l' l'' (numbers_for n t) → LinesTo n from (i + 1) ts l l''
-  lines_next {l''} r =
-      record {
-        size = r.size ∙ d.size;
-        each = λ j x. one j x (ℕ_discrete j i);
-        rest = λ q f. r.rest q (f i (omega arith)) ∙ d.rest q (λ j x. f j (omega arith));
-      }
-    where
-      one : (j : ℕ) → j < i + 1 → Dec (j ≡ i) → Lists n (from + j) (get_or ts j 0) l''
-      one j x (yes y) = rw (y, ← e) (lists_added t a.size within still r)
-      one j x (no y) =
-          lists_kept (from + j) l' l'' (omega (arith, a.lines))
-          (λ q _ f. r.rest q (f (from + i) (omega (arith, a.lines)) (λ z. y (omega arith))))
-          (d.each j (omega arith))
-
--- ---- the rows, then the columns
+-- ---- one line after the other: row i, then column i
 
 fresh_unlisted : (n ℓ : ℕ) (l : List ℕ) → Fresh n l → Unlisted ℓ l
 fresh_unlisted n ℓ l f = record { none = f.arcs (length_place ℓ) (omega arith); supports = λ p v i k. f.arcs (support_place (ℓ * 9 + p) v) (omega arith) }
 
+black_row : (ℓ : ℕ) → ℓ < 9 → 8 ≡ black_at ℓ
+unfolding black_at
+black_row ℓ h = rw (lt-ltb ℓ 9 h)
+
+black_column : (ℓ : ℕ) → 9 ≤ ℓ → 10 ≡ black_at ℓ
+unfolding black_at
+black_column ℓ h = rw (le-ltb ℓ 9 h)
+
+-- the first k rows and the first k columns list the arrangements of their targets, and nothing else moved
+pub record ListedTo (n k : ℕ) (rows columns l l' : List ℕ) : Type 0 where
+  pub size : length l' ≡ length l
+  pub row : (i : ℕ) → i < k → Lists n i (get_or rows i 0) l'
+  pub column : (i : ℕ) → i < k → Lists n (9 + i) (get_or columns i 0) l'
+  pub rest : (q : ℕ) → ((i : ℕ) → i < k → Elsewhere i q × Elsewhere (9 + i) q) → get_or l' q 0 ≡ get_or l q 0
+
 module _ {n : ℕ} {ws rows columns l : List ℕ} (a : OpenAsk n ws rows columns l) where
-  pub rows_ask : LinesAsk n 0 8 ws rows l
-  unfolding black_at
-  rows_ask =
+  -- a line that lists nothing can list the arrangements of its target
+  addable : {l' : List ℕ} (ℓ k t : ℕ) → ℓ < 18 → k ≡ black_at ℓ → length l' ≡ length l → t ≤ max_target n → Unlisted ℓ l' → AddAsk n ℓ k ws l' (numbers_for n t)
+  addable ℓ k t h b long m u =
       record {
         size = a.size;
         words = a.words;
-        lines = omega (arith, a.size.high);
-        black = λ i h. rw (lt-ltb (0 + i) 9 (omega (arith, a.size.high)));
-        long = a.fresh.size;
-        targets = a.rows_long;
-        within = a.rows_within;
-        unlisted = λ i h. fresh_unlisted n (0 + i) l a.fresh;
+        line = h;
+        black = b;
+        long = long ∙ a.fresh.size;
+        room = omega (arith, u.none, numbers_few n t a.size m);
+        low = λ p v x y. omega (arith, u.supports p v x y);
       }
 
-  module _ {l₁ : List ℕ} (r : LinesTo n 0 n rows l l₁) where
-    pub columns_ask : LinesAsk n 9 10 ws columns l₁
-    unfolding black_at
-    columns_ask =
-        record {
-          size = a.size;
-          words = a.words;
-          lines = omega (arith, a.size.high);
-          black = λ i h. rw (le-ltb (9 + i) 9 (omega arith));
-          long = r.size ∙ a.fresh.size;
-          targets = a.columns_long;
-          within = a.columns_within;
-          unlisted = λ i h.
-              unlisted_kept (9 + i) l l₁ (omega (arith, a.size.high))
-              (λ q _ f. r.rest q (λ j x. f (0 + j) (omega (arith, a.size.high)) (λ y. omega (arith, a.size.high))))
-              (fresh_unlisted n (9 + i) l a.fresh);
-        }
+  module _ (i : ℕ) (h : i < n) {l₁ : List ℕ} (d : ListedTo n i rows columns l l₁) where
+    abbrev r : ℕ
+    r = get_or rows i 0
 
-    -- then every line lists its arrangements
-    pub all_arranged : {l₂ : List ℕ} → LinesTo n 9 n columns l₁ l₂ → LinesListed n rows columns l l₂
-    unfolding LineOf target_at
-    all_arranged {l₂} s =
-        record {
-          size = s.size ∙ r.size;
-          each = λ ℓ. ⊎_elim (λ h. row ℓ h) (λ h. column ℓ h.0 h.1);
-          rest = λ q h.
-              s.rest q (λ i x. record { count = λ y. omega arith; list = λ j b y. omega arith; supports = λ p v b c y. omega arith })
-              ∙ r.rest q (λ i x. record { count = λ y. omega arith; list = λ j b y. omega arith; supports = λ p v b c y. omega arith });
-        }
-      where
-        row : (ℓ : ℕ) → ℓ < n → Lists n ℓ (target_at rows columns ℓ) l₂
-        row ℓ h =
-            let e : 0 + ℓ ≡ ℓ = omega arith in
-            rw (lt-ltb ℓ 9 (omega (arith, a.size.high)))
-            (lists_kept ℓ l₁ l₂ (omega (arith, a.size.high))
-            (λ q _ f. s.rest q (λ j x. f (9 + j) (omega (arith, a.size.high)) (λ y. omega (arith, a.size.high))))
-            (rw e at (r.each ℓ h)))
+    abbrev c : ℕ
+    c = get_or columns i 0
 
-        column : (ℓ : ℕ) → 9 ≤ ℓ → ℓ < 9 + n → Lists n ℓ (target_at rows columns ℓ) l₂
-        column ℓ g h =
-            let e : 9 + (ℓ - 9) ≡ ℓ = omega arith in
-            rw (le-ltb ℓ 9 g) (rw e at (s.each (ℓ - 9) (omega arith)))
+    low : i < 9
+    low = omega (arith, a.size.high)
+
+    row_unlisted : Unlisted i l₁
+    row_unlisted =
+        unlisted_kept i l l₁ (omega (arith, low))
+        (λ q _ f. d.rest q (λ j x. (f j (omega (arith, low)) (λ y. omega arith), f (9 + j) (omega (arith, low)) (λ y. omega (arith, low)))))
+        (fresh_unlisted n i l a.fresh)
+
+    pub row_ask : {lane : Lane} (t : ℕ) → lane ≡ row_lane i → t ≡ r →
+        AddAsk n lane.number lane.first ws l₁ (numbers_for n t) × (t ≤ max_target n)
+    row_ask t e f =
+        let m : t ≤ max_target n = omega (arith, a.rows_within i h) in
+        rw e (addable i 8 t (omega (arith, low)) (black_row i low) d.size m row_unlisted, m)
+
+    -- and then the column
+    module _ {l₂ : List ℕ} {row : Lane} (t : ℕ) (e : row ≡ row_lane i) (f : t ≡ r) (s : Added n row.number l₁ l₂ (numbers_for n t)) where
+      row_added : Added n i l₁ l₂ (numbers_for n r)
+      row_added = rw (e, f) at s
+
+      column_unlisted : Unlisted (9 + i) l₂
+      column_unlisted =
+          unlisted_kept (9 + i) l l₂ (omega (arith, low))
+          (λ q _ f.
+          row_added.rest q (f i (omega (arith, low)) (λ y. omega arith))
+          ∙ d.rest q (λ j x. (f j (omega (arith, low)) (λ y. omega (arith, low)), f (9 + j) (omega (arith, low)) (λ y. omega arith))))
+          (fresh_unlisted n (9 + i) l a.fresh)
+
+      pub column_ask : {lane : Lane} (u : ℕ) → lane ≡ column_lane i → u ≡ c →
+          AddAsk n lane.number lane.first ws l₂ (numbers_for n u) × (u ≤ max_target n)
+      column_ask u g k =
+          let m : u ≤ max_target n = omega (arith, a.columns_within i h) in
+          rw g (addable (9 + i) 10 u (omega (arith, low)) (black_column (9 + i) (omega arith)) (row_added.size ∙ d.size) m column_unlisted, m)
+
+      pub listed_next : {l₃ : List ℕ} {lane : Lane} (u : ℕ) → lane ≡ column_lane i → u ≡ c → Added n lane.number l₂ l₃ (numbers_for n u) →
+          ListedTo n (i + 1) rows columns l l₃
+      listed_next {l₃} u g k z =
+          record {
+            size = w.size ∙ row_added.size ∙ d.size;
+            row = λ j x. rows_now j x (ℕ_discrete j i);
+            column = λ j x. columns_now j x (ℕ_discrete j i);
+            rest = λ q f. w.rest q (f i (omega arith)).1 ∙ row_added.rest q (f i (omega arith)).0 ∙ d.rest q (λ j x. f j (omega arith));
+          }
+        where
+          w : Added n (9 + i) l₂ l₃ (numbers_for n c)
+          w = rw (g, k) at z
+
+          row_kept : (j : ℕ) → j < 9 → {t : ℕ} → Lists n j t l₂ → Lists n j t l₃
+          row_kept j x y = lists_kept j l₂ l₃ (omega arith) (λ q _ f. w.rest q (f (9 + i) (omega (arith, low)) (λ v. omega arith))) y
+
+          rows_now : (j : ℕ) → j < i + 1 → Dec (j ≡ i) → Lists n j (get_or rows j 0) l₃
+          rows_now j x (yes y) =
+              rw y (row_kept i low (lists_added (get_or rows i 0) a.size (a.rows_within i h) row_unlisted row_added))
+          rows_now j x (no y) =
+              row_kept j (omega (arith, low))
+              (lists_kept j l₁ l₂ (omega (arith, low)) (λ q _ f. row_added.rest q (f i (omega (arith, low)) (λ v. y (omega arith)))) (d.row j (omega arith)))
+
+          columns_now : (j : ℕ) → j < i + 1 → Dec (j ≡ i) → Lists n (9 + j) (get_or columns j 0) l₃
+          columns_now j x (yes y) = rw y (lists_added (get_or columns i 0) a.size (a.columns_within i h) column_unlisted w)
+          columns_now j x (no y) =
+              lists_kept (9 + j) l₁ l₃ (omega (arith, low))
+              (λ q _ f.
+              w.rest q (f (9 + i) (omega (arith, low)) (λ v. y (omega arith)))
+              ∙ row_added.rest q (f i (omega (arith, low)) (λ v. omega (arith, low))))
+              (d.column j (omega arith))
+
+  -- then every line lists its arrangements
+  pub all_listed : {l' : List ℕ} → ListedTo n n rows columns l l' → LinesListed n rows columns l l'
+  unfolding LineOf target_at
+  all_listed {l'} d =
+      record {
+        size = d.size;
+        each = λ ℓ. ⊎_elim (λ h. row ℓ h) (λ h. column ℓ h.0 h.1);
+        rest = λ q h. d.rest q (λ i x. (
+          record { count = λ y. omega arith; list = λ j b y. omega arith; supports = λ p v b c y. omega arith },
+          record { count = λ y. omega arith; list = λ j b y. omega arith; supports = λ p v b c y. omega arith },
+        ));
+      }
+    where
+      row : (ℓ : ℕ) → ℓ < n → Lists n ℓ (target_at rows columns ℓ) l'
+      row ℓ h = rw (lt-ltb ℓ 9 (omega (arith, a.size.high))) (d.row ℓ h)
+
+      column : (ℓ : ℕ) → 9 ≤ ℓ → ℓ < 9 + n → Lists n ℓ (target_at rows columns ℓ) l'
+      column ℓ g h =
+          let e : 9 + (ℓ - 9) ≡ ℓ = omega arith in
+          rw (le-ltb ℓ 9 g) (rw e at (d.column (ℓ - 9) (omega arith)))

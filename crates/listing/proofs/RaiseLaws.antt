@@ -7,11 +7,12 @@ use native.Mathlib.Nat.{lt_of_lt_of_le}
 use native.Mathlib.Decide.{ℕ_discrete, dec_lt}
 use lib.ListN.{set, length-set}
 use lib.Seq.{get_or-set_same, get_or-set_other}
-use lib.Count.{count_trailing_zeros}
-use lib.Pow.{pow_pos, pow_mono, shr_lt}
+use lib.Pow.{pow_mono, shr_lt}
 use borrow.Author.Tests.{lt-ltb, le-ltb}
 use Rattle.bits.specs.Bit.{bit}
-use Rattle.bits.proofs.BitLaws.{bit_lt, bit_le, bit_none, bit_taken, bit_kept, shl_one, Lowest, trailing_lowest}
+use Rattle.bits.proofs.BitLaws.{bit_lt, bit_none}
+use Rattle.value.specs.Mask.{LowestOf}
+use Rattle.value.proofs.LowestLaws.{rest_without, rest_keeps}
 use Rattle.bits.specs.Sum.{same}
 use Rattle.bits.proofs.SumLaws.{same_yes, same_no}
 use Rattle.words.specs.Word.{set_of, inner_of, first_of, second_of, part}
@@ -68,66 +69,45 @@ raise_done l ℓ p v a =
 
 pub record Digits (ℓ p set rest : ℕ) (l₀ l : List ℕ) : Type 0 where
   pub can : (v : ℕ) → v < 16 → RaiseAsk ℓ p v l₀
-  pub fits : rest < 2 ^ 16
   pub within : (v : ℕ) → bit v rest ≤ bit v set
   pub raised : Raised ℓ l₀ l (λ q w. min (same q p) (bit w set - bit w rest))
 
-pub digits_start : (ℓ p set : ℕ) (l : List ℕ) → ((v : ℕ) → v < 16 → RaiseAsk ℓ p v l) → set < 2 ^ 16 → Digits ℓ p set set l l
-digits_start ℓ p set l a h =
-    record { can = a; fits = h; within = λ v. omega arith; raised = raised_none ℓ l _ (λ q w _ _. omega arith) }
-
-module _ {ℓ p set rest : ℕ} {l₀ l : List ℕ} (d : Digits ℓ p set rest l₀ l) (pos : rest ≡ 0 → ⊥) where
-  abbrev digit : ℕ
-  digit = count_trailing_zeros 16 rest
-
-  lowest : Lowest 16 rest digit
-  lowest = trailing_lowest 16 rest d.fits (omega arith)
-
-  pub digits_value : digit < 16
-  digits_value = lowest.in_width
-
+module _ {ℓ p set rest digit rest' : ℕ} {l₀ l : List ℕ} (d : Digits ℓ p set rest l₀ l) (b : LowestOf rest digit rest') where
   pub digits_can : RaiseAsk ℓ p digit l
   digits_can =
-      let a = d.can digit lowest.in_width in
-      let r = d.raised.supports p digit a.place lowest.in_width in
+      let a = d.can digit b.value in
+      let r = d.raised.supports p digit a.place b.value in
       record {
         long = d.raised.size ∙ a.long;
         line = a.line;
         place = a.place;
         value = a.value;
-        low = omega (arith, a.low, lowest.here, bit_lt digit set);
+        low = omega (arith, a.low, b.here, bit_lt digit set);
       }
 
-  pub digits_enough : 1 * 2 ^ digit % 65536 ≤ rest
-  digits_enough = rw (shl_one digit lowest.in_width) (bit_le digit rest lowest.here)
-
-  pub digits_less : rest - 1 * 2 ^ digit % 65536 < rest
-  digits_less = rw (shl_one digit lowest.in_width) (omega (arith, bit_le digit rest lowest.here, pow_pos digit))
-
-  pub digits_next : {l' : List ℕ} → Raised ℓ l l' (one_at p digit) → Digits ℓ p set (rest - 1 * 2 ^ digit % 65536) l₀ l'
+  pub digits_next : {l' : List ℕ} → Raised ℓ l l' (one_at p digit) → Digits ℓ p set rest' l₀ l'
   unfolding one_at
   digits_next {l'} r =
-      rw (shl_one digit lowest.in_width) (record {
+      record {
         can = d.can;
-        fits = omega (arith, d.fits);
         within = λ w. within w (ℕ_discrete w digit);
         raised = raised_both _ d.raised r (λ q w h k. sums q w h k (ℕ_discrete w digit) (ℕ_discrete q p));
-      })
+      }
     where
-      within : (w : ℕ) → Dec (w ≡ digit) → bit w (rest - 2 ^ digit) ≤ bit w set
-      within w (yes e) = rw e (omega (arith, bit_taken digit rest lowest.here))
-      within w (no e) = omega (arith, bit_kept digit rest w lowest.here e, d.within w)
+      within : (w : ℕ) → Dec (w ≡ digit) → bit w rest' ≤ bit w set
+      within w (yes e) = rw e (omega (arith, rest_without b))
+      within w (no e) = omega (arith, rest_keeps b w e, d.within w)
 
       sums : (q w : ℕ) → q < 9 → w < 16 → Dec (w ≡ digit) → Dec (q ≡ p) →
-          min (same q p) (bit w set - bit w (rest - 2 ^ digit)) ≡ min (same q p) (bit w set - bit w rest) + same (q * 16 + w) (p * 16 + digit)
+          min (same q p) (bit w set - bit w rest') ≡ min (same q p) (bit w set - bit w rest) + same (q * 16 + w) (p * 16 + digit)
       sums q w h k (yes e) (yes f) =
-          let a : bit w (rest - 2 ^ digit) ≡ 0 = rw e (bit_taken digit rest lowest.here) in
-          let b : bit w rest ≡ 1 = rw e lowest.here in
+          let a : bit w rest' ≡ 0 = rw e (rest_without b) in
+          let g : bit w rest ≡ 1 = rw e b.here in
           omega (arith, same_yes q p f, same_yes (q * 16 + w) (p * 16 + digit) (omega arith), d.within w, bit_lt w set)
       sums q w h k (yes e) (no f) = omega (arith, same_no q p f, same_no (q * 16 + w) (p * 16 + digit) (λ x. f (omega arith)))
       sums q w h k (no e) f =
-          let a = bit_kept digit rest w lowest.here e in
-          rw a (omega (arith, same_no (q * 16 + w) (p * 16 + digit) (λ x. e (omega (arith, lowest.in_width)))))
+          let a = rest_keeps b w e in
+          rw a (omega (arith, same_no (q * 16 + w) (p * 16 + digit) (λ x. e (omega (arith, b.value)))))
 
 pub digits_end : {ℓ p set rest : ℕ} {l₀ l : List ℕ} → Digits ℓ p set rest l₀ l → rest ≡ 0 → Raised ℓ l₀ l (digits_at p set)
 unfolding digits_at

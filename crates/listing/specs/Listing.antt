@@ -108,23 +108,6 @@ pub record Lists (n ℓ t : ℕ) (l : List ℕ) : Type 0 where
   pub known : (j : ℕ) → j < lives l ℓ → Known n (live l ℓ j)
   pub supports : (p v : ℕ) → p < 9 → v < 16 → support l (ℓ * 9 + p) v ≡ sum_over 0 (lives l ℓ) (λ (j : ℕ). part (black_at ℓ) (word_of n (live l ℓ j)) p v)
 
--- Lines from .. from + n - 1, with targets ts and the first black k, can be opened.
-pub record LinesAsk (n from k : ℕ) (ws ts l : List ℕ) : Type 0 where
-  pub size : Size n
-  pub words : Words n ws
-  pub lines : from + n ≤ 18
-  pub black : (i : ℕ) → i < n → k ≡ black_at (from + i)
-  pub long : length l ≡ slab_size
-  pub targets : length ts ≡ n
-  pub within : (i : ℕ) → i < n → get_or ts i 0 ≤ max_target n
-  pub unlisted : (i : ℕ) → i < n → Unlisted (from + i) l
-
--- The first k of them list their arrangements, and nothing else moved.
-pub record LinesTo (n from k : ℕ) (ts l l' : List ℕ) : Type 0 where
-  pub size : length l' ≡ length l
-  pub each : (i : ℕ) → i < k → Lists n (from + i) (get_or ts i 0) l'
-  pub rest : (q : ℕ) → ((i : ℕ) → i < k → Elsewhere (from + i) q) → get_or l' q 0 ≡ get_or l q 0
-
 -- ---- all lines
 
 -- The target of line ℓ.

@@ -1,15 +1,17 @@
 // The live arrangements of each line and their supports, before any strike (in the Rust: init_live_tuples).
 #![tactic(auto)]
 
-ghost use Rattle.std.specs.Prelude.{◌∷◌, [], ℕ, ◌≤◌, ◌<◌};
+ghost use Rattle.std.specs.Prelude.{◌≡◌, ◌∷◌, [], ℕ, ◌≤◌, ◌<◌};
 ghost use Rattle.rules.specs.Check.{max_target};
-ghost use Rattle.words.specs.Word.{part, Known};
-ghost use Rattle.listing.specs.Numbers.{starts_from, side_from, side_of, numbers_for};
-ghost use Rattle.listing.specs.Listing.{Raised, one_at, digits_at, inner_to, RaiseAsk, WordAsk, Added, AddAsk, StartsAsk, LinesAsk, LinesTo, OpenAsk, LinesListed};
+ghost use Rattle.words.specs.Word.{size_in, part, on_side, Known};
+ghost use Rattle.listing.specs.Numbers.{starts_from, side_of, numbers_for};
+ghost use Rattle.listing.specs.Sides.{is_outside};
+ghost use Rattle.listing.specs.Listing.{Raised, one_at, digits_at, inner_to, RaiseAsk, WordAsk, Added, AddAsk, StartsAsk, OpenAsk, LinesListed};
 
+use lane::Lane;
 use puzzle::max_target;
 use queue_state::Slab;
-use value::{Value, wide};
+use value::Bits;
 use words::{Subset, first_of, from_sum, second_of, set_of};
 
 // One more arrangement has the value v at place p of a line.
@@ -17,8 +19,7 @@ fn raise_support(st: &mut [u16], line: usize, p: usize, v: usize)
     requires { RaiseAsk line p v st.old }
     ensures { Raised line st.old st.new (one_at p v) }
 {
-    let at = Slab::SUPPORT + (line * 9 + p) * 16 + v;
-    st[at] = st[at] + 1;
+    st[Slab::SUPPORT + (line * 9 + p) * 16 + v] += 1;
 }
 
 // One more arrangement has the digits of a set at place p of a line.
@@ -26,11 +27,8 @@ fn add_digits(st: &mut [u16], line: usize, p: usize, set: u16)
     requires { (v : ℕ) → v < 16 → RaiseAsk line p v st.old }
     ensures { Raised line st.old st.new (digits_at p set) }
 {
-    let mut rest = set;
-    while rest != 0 {
-        let v = u16::trailing_zeros(rest) as usize;
+    for v in (Bits { rest: set }) {
         raise_support(st, line, p, v);
-        rest = rest - (1u16 << v);
     }
 }
 
@@ -41,98 +39,73 @@ fn add_inner(st: &mut [u16], n: usize, line: usize, w: u32)
 {
     let inner = w / 256 % 512;
     let set = set_of(w);
-    let mut p = 0;
-    while p < n {
+    for p in 0..n {
         if (inner >> p) % 2 == 1 {
             add_digits(st, line, p, set);
         }
-        p += 1;
     }
 }
 
-// One more arrangement has the pattern of a word, in a line whose first black is given.
-fn add_support(st: &mut [u16], n: usize, line: usize, first: usize, w: u32)
-    requires { WordAsk n line first w st.old }
-    ensures { Raised line st.old st.new (part first w) }
+// One more arrangement of a line has the pattern of a word.
+fn add_support(st: &mut [u16], n: usize, lane: Lane, w: u32)
+    requires { WordAsk n lane.number lane.first w st.old }
+    ensures { Raised lane.number st.old st.new (part lane.first w) }
 {
-    raise_support(st, line, first_of(w), first);
-    raise_support(st, line, second_of(w), first + 1);
-    add_inner(st, n, line, w);
+    raise_support(st, lane.number, first_of(w), lane.first);
+    raise_support(st, lane.number, second_of(w), lane.first + 1);
+    add_inner(st, n, lane.number, w);
 }
 
 // An arrangement joins a line's list.
-fn add_arrangement(st: &mut [u16], words: &[u32], n: usize, line: usize, first: usize, id: usize)
-    requires { AddAsk n line first words.now st.old (id ∷ []) × Known n id }
-    ensures { Added n line st.old st.new (id ∷ []) }
+fn add_arrangement(st: &mut [u16], words: &[u32], n: usize, lane: Lane, id: usize)
+    requires { AddAsk n lane.number lane.first words.now st.old (id ∷ []) × Known n id }
+    ensures { Added n lane.number st.old st.new (id ∷ []) }
 {
-    let k = wide(st[Slab::LENGTHS + line]);
-    st[Slab::LIVE + line * Slab::PER_LINE + k] = id as u16;
-    st[Slab::LENGTHS + line] = (k + 1) as u16;
-    add_support(st, n, line, first, words[id]);
+    let k = usize::from(st[Slab::LENGTHS + lane.number]);
+    st[Slab::LIVE + lane.number * Slab::PER_LINE + k] = id as u16;
+    st[Slab::LENGTHS + lane.number] = (k + 1) as u16;
+    add_support(st, n, lane, words[id]);
 }
 
-// The arrangements of subset s, which has len digits, from each start of one side.
-fn list_starts(
-    st: &mut [u16],
-    words: &[u32],
-    n: usize,
-    line: usize,
-    first: usize,
-    outside: bool,
-    s: usize,
-    len: usize,
-)
-    requires { AddAsk n line first words.now st.old (starts_from n outside s len 0) × StartsAsk n s len }
-    ensures { Added n line st.old st.new (starts_from n outside s len 0) }
-{
-    let mut start = 0;
-    while start < n {
-        if words::on_side(n, outside, start + len + 2) {
-            add_arrangement(st, words, n, line, first, s * 9 + start);
+// The arrangements inside a line, or those that go around its end.
+#[derive(Clone, Copy)]
+enum Side {
+    Inside,
+    Outside,
+}
+
+impl Side {
+    // It has the arrangements that take the places before end.
+    #[tactic(auto, unfolding(words::specs::Word::on_side))]
+    fn has(self, n: usize, end: usize) -> bool
+        ensures { result ≡ on_side n (is_outside self) end }
+    {
+        match self {
+            Side::Inside => end <= n,
+            Side::Outside => n < end,
         }
-        start += 1;
     }
 }
 
-// The arrangements of one side with the subsets from .. to.
-fn list_subsets(
-    st: &mut [u16],
-    words: &[u32],
-    n: usize,
-    line: usize,
-    first: usize,
-    outside: bool,
-    from: usize,
-    to: usize,
-)
-    requires { AddAsk n line first words.now st.old (side_from n outside from to) × (to ≤ 128) }
-    ensures { Added n line st.old st.new (side_from n outside from to) }
+// The arrangements of subset s from each start of one side.
+fn list_starts(st: &mut [u16], words: &[u32], n: usize, lane: Lane, side: Side, s: usize)
+    requires { AddAsk n lane.number lane.first words.now st.old (starts_from n (is_outside side) s (size_in s) 0) × StartsAsk n s (size_in s) }
+    ensures { Added n lane.number st.old st.new (starts_from n (is_outside side) s (size_in s) 0) }
 {
-    let top = 1u16 << (n - 1);
-    let subsets = Subset::ALL;
-    let mut s = from;
-    while s < to {
-        let x = subsets[s];
-        if x % 256 < top {
-            list_starts(st, words, n, line, first, outside, s, wide(x / 8192));
+    let len = usize::from(Subset::ALL[s] / 8192);
+    for start in 0..n {
+        if side.has(n, start + len + 2) {
+            add_arrangement(st, words, n, lane, s * 9 + start);
         }
-        s += 1;
     }
 }
 
 // The arrangements of one side whose digits have the sum that is wanted.
-fn list_side(
-    st: &mut [u16],
-    words: &[u32],
-    n: usize,
-    line: usize,
-    first: usize,
-    outside: bool,
-    want: usize,
-)
-    requires { AddAsk n line first words.now st.old (side_of n outside want) × (want < 29) }
-    ensures { Added n line st.old st.new (side_of n outside want) }
+fn list_side(st: &mut [u16], words: &[u32], n: usize, lane: Lane, side: Side, want: usize)
+    requires { AddAsk n lane.number lane.first words.now st.old (side_of n (is_outside side) want) × (want < 29) }
+    ensures { Added n lane.number st.old st.new (side_of n (is_outside side) want) }
 {
+<<<<<<< HEAD
     list_subsets(
         st,
         words,
@@ -164,14 +137,33 @@ fn list_lines(st: &mut [u16], words: &[u32], n: usize, from: usize, first: usize
     while i < n {
         list_line(st, words, n, from + i, first, usize::from(targets[i]));
         i += 1;
+=======
+    let top = 1u16 << (n - 1);
+    for s in from_sum(want)..from_sum(want + 1) {
+        if Subset::ALL[s] % 256 < top {
+            list_starts(st, words, n, lane, side, s);
+        }
+>>>>>>> ca11b04 (listing: a line is a Lane, the side an enum, a subset its number alone; loops are for loops, and one of them lists row i and column i)
     }
 }
 
-// Every line lists the arrangements of its target: the rows, then the columns.
+// The arrangements of a line with a target: the inside ones have its sum, the outside ones leave it.
+fn list_line(st: &mut [u16], words: &[u32], n: usize, lane: Lane, target: usize)
+    requires { AddAsk n lane.number lane.first words.now st.old (numbers_for n target) × (target ≤ max_target n) }
+    ensures { Added n lane.number st.old st.new (numbers_for n target) }
+{
+    let other = max_target(n) - target;
+    list_side(st, words, n, lane, Side::Inside, target);
+    list_side(st, words, n, lane, Side::Outside, other);
+}
+
+// Every line lists the arrangements of its target.
 pub fn list_arrangements(st: &mut [u16], words: &[u32], n: usize, rows: &[u8], columns: &[u8])
     requires { OpenAsk n words.now rows.now columns.now st.old }
     ensures { LinesListed n rows.now columns.now st.old st.new }
 {
-    list_lines(st, words, n, 0, Value::BLACK1_ROW, rows);
-    list_lines(st, words, n, 9, Value::BLACK1_COL, columns);
+    for i in 0..n {
+        list_line(st, words, n, Lane::row(i), usize::from(rows[i]));
+        list_line(st, words, n, Lane::column(i), usize::from(columns[i]));
+    }
 }

@@ -1,12 +1,12 @@
--- What holds in the loops of `listing::list_starts`, and why they end.
-use Prim.Native.Nat.{◌-◌}
+-- What holds in the loop of `listing::list_starts`.
+use Rattle.words.specs.Word.{size_in}
+use Rattle.listing.specs.Sides.{is_outside}
 use Rattle.listing.specs.Listing.{Adding}
 use Rattle.listing.specs.Numbers.{starts_from}
 use Rattle.listing.proofs.list_starts.Given as goal
 
 abbrev pub invariant-loop-start : goal.invariant-loop-start
 invariant-loop-start l =
-    Adding l.n l.line l.first l.words l.initial.st l.st (starts_from l.n l.outside l.s l.len l.start) (starts_from l.n l.outside l.s l.len 0)
-
-abbrev pub decreases-loop-start : goal.decreases-loop-start
-decreases-loop-start l = l.n - l.start
+    Adding l.n l.lane.number l.lane.first l.words l.initial.st l.st
+    (starts_from l.n (is_outside l.side) l.s (size_in l.s) l.start)
+    (starts_from l.n (is_outside l.side) l.s (size_in l.s) 0)

@@ -1,0 +1,6 @@
+-- What holds in the loop of `listing::list_arrangements`.
+use Rattle.listing.proofs.LineLaws.{ListedTo}
+use Rattle.listing.proofs.list_arrangements.Given as goal
+
+abbrev pub invariant-loop-i : goal.invariant-loop-i
+invariant-loop-i l = ListedTo l.n l.i l.rows l.columns l.initial.st l.st
