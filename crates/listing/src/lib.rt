@@ -105,45 +105,11 @@ fn list_side(st: &mut [u16], words: &[u32], n: usize, lane: Lane, side: Side, wa
     requires { AddAsk n lane.number lane.first words.now st.old (side_of n (is_outside side) want) × (want < 29) }
     ensures { Added n lane.number st.old st.new (side_of n (is_outside side) want) }
 {
-<<<<<<< HEAD
-    list_subsets(
-        st,
-        words,
-        n,
-        line,
-        first,
-        outside,
-        from_sum(want),
-        from_sum(want + 1),
-    );
-}
-
-// The arrangements of a line with a target: the inside ones have its sum, the outside ones leave it.
-fn list_line(st: &mut [u16], words: &[u32], n: usize, line: usize, first: usize, target: usize)
-    requires { AddAsk n line first words.now st.old (numbers_for n target) × (target ≤ max_target n) }
-    ensures { Added n line st.old st.new (numbers_for n target) }
-{
-    let other = max_target(n) - target;
-    list_side(st, words, n, line, first, false, target);
-    list_side(st, words, n, line, first, true, other);
-}
-
-// Each of n lines, the first of which has the number from, lists the arrangements of its target.
-fn list_lines(st: &mut [u16], words: &[u32], n: usize, from: usize, first: usize, targets: &[u8])
-    requires { LinesAsk n from first words.now targets.now st.old }
-    ensures { LinesTo n from n targets.now st.old st.new }
-{
-    let mut i = 0;
-    while i < n {
-        list_line(st, words, n, from + i, first, usize::from(targets[i]));
-        i += 1;
-=======
     let top = 1u16 << (n - 1);
     for s in from_sum(want)..from_sum(want + 1) {
         if Subset::ALL[s] % 256 < top {
             list_starts(st, words, n, lane, side, s);
         }
->>>>>>> ca11b04 (listing: a line is a Lane, the side an enum, a subset its number alone; loops are for loops, and one of them lists row i and column i)
     }
 }
 
