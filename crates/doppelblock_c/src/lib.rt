@@ -1,4 +1,5 @@
-// What a host of the hall links, in libdoppelblock.a: each export calls the function of the same name in crates/doppelblock, and promises what that promises.
+// What a host of the hall links, in libdoppelblock.a: each export calls the function of crates/host with its unit. Numbers and byte slices only:
+// an answer is the number of a refusal, or one of `host::Answer`.
 #![tactic(auto)]
 
 ghost use Rattle.std.specs.Prelude.{◌≡◌, length};
@@ -10,6 +11,8 @@ ghost use Rattle.sheet_marking.specs.Answer.{mark_sheet};
 ghost use Rattle.engine.specs.Answer.{count_answer, solve_answer, SolveWritten};
 ghost use Rattle.host.specs.Number.{TableNumbered, sheet_number, count_out, solve_number};
 
+use units::Unit;
+
 // 0 where both target slices hold the sums, else the number of the refusal.
 #[unsafe(no_mangle)]
 pub extern "C" fn doppelblock_target_sums(
@@ -20,7 +23,7 @@ pub extern "C" fn doppelblock_target_sums(
 ) -> u8
     ensures { (result, rows.new, columns.new) ≡ target_sums hall size cells.now rows.old columns.old }
 {
-    doppelblock::doppelblock_target_sums(size, cells, rows, columns)
+    host::target_sums(Unit::hall(), size, cells, rows, columns)
 }
 
 // WRONG or RIGHT, or the number of the refusal.
@@ -33,7 +36,7 @@ pub extern "C" fn doppelblock_mark_sheet(
 ) -> u8
     ensures { result ≡ sheet_number (mark_sheet hall (puzzle size rows.now columns.now) cells.now) }
 {
-    doppelblock::doppelblock_mark_sheet(size, rows, columns, cells)
+    host::mark_sheet(Unit::hall(), size, rows, columns, cells)
 }
 
 // 0 where the count is the smaller of the cap and the number of grids that keep the puzzle and the marks, else the number of the refusal.
@@ -49,7 +52,7 @@ pub extern "C" fn doppelblock_count(
     ensures { (result, count.new) ≡ count_out
         (count_answer hall (puzzle size rows.now columns.now) (marks_of marks.now) cap) count.old }
 {
-    doppelblock::doppelblock_count(size, rows, columns, marks, cap, count)
+    host::count(Unit::hall(), size, rows, columns, marks, cap, count)
 }
 
 // UNSOLVABLE, UNIQUE or MULTIPLE, or the number of the refusal. The cells hold one of the grids, if there is one.
@@ -65,7 +68,7 @@ pub extern "C" fn doppelblock_solve(
         (solve_answer hall (puzzle size rows.now columns.now) (marks_of marks.now) (length cells.old)))
         × SolveWritten hall (puzzle size rows.now columns.now) (marks_of marks.now) cells.old cells.new }
 {
-    doppelblock::doppelblock_solve(size, rows, columns, marks, cells)
+    host::solve(Unit::hall(), size, rows, columns, marks, cells)
 }
 
 // WRITTEN where the table holds the candidates that remain, CONTRADICTED where a cell has none, or the number of the refusal.
@@ -80,7 +83,7 @@ pub extern "C" fn doppelblock_candidates(
     ensures { TableNumbered hall (puzzle size rows.now columns.now) (marks_of marks.now)
         result table.old table.new }
 {
-    doppelblock::doppelblock_candidates(size, rows, columns, marks, table)
+    host::candidates(Unit::hall(), size, rows, columns, marks, table)
 }
 
 // The greatest size of the unit.
@@ -88,7 +91,7 @@ pub extern "C" fn doppelblock_candidates(
 pub extern "C" fn doppelblock_size_limit() -> usize
     ensures { result ≡ hall.greatest }
 {
-    doppelblock::doppelblock_size_limit()
+    Unit::hall().size_limit()
 }
 
 // The greatest number of marks in a list, or the greatest number of all where the unit takes any list.
@@ -96,5 +99,5 @@ pub extern "C" fn doppelblock_size_limit() -> usize
 pub extern "C" fn doppelblock_list_limit() -> usize
     ensures { result ≡ list_limit hall }
 {
-    doppelblock::doppelblock_list_limit()
+    Unit::hall().list_limit()
 }

@@ -1,5 +1,5 @@
-// What a host of a classroom links, in libdoppelblock_classroom.a: each export calls the function of the same name in crates/doppelblock_classroom,
-// and promises what that promises.
+// What a host of a classroom links, in libdoppelblock_classroom.a: the exports of crates/doppelblock_c within the limits of the classrooms.
+// C needs each name, so the two crates are twins; what they call is one function for both.
 #![tactic(auto)]
 
 ghost use Rattle.std.specs.Prelude.{◌≡◌, length};
@@ -11,6 +11,8 @@ ghost use Rattle.sheet_marking.specs.Answer.{mark_sheet};
 ghost use Rattle.engine.specs.Answer.{count_answer, solve_answer, SolveWritten};
 ghost use Rattle.host.specs.Number.{TableNumbered, sheet_number, count_out, solve_number};
 
+use units::Unit;
+
 // 0 where both target slices hold the sums, else the number of the refusal.
 #[unsafe(no_mangle)]
 pub extern "C" fn doppelblock_classroom_target_sums(
@@ -21,7 +23,7 @@ pub extern "C" fn doppelblock_classroom_target_sums(
 ) -> u8
     ensures { (result, rows.new, columns.new) ≡ target_sums classroom size cells.now rows.old columns.old }
 {
-    doppelblock_classroom::doppelblock_classroom_target_sums(size, cells, rows, columns)
+    host::target_sums(Unit::classroom(), size, cells, rows, columns)
 }
 
 // WRONG or RIGHT, or the number of the refusal.
@@ -34,7 +36,7 @@ pub extern "C" fn doppelblock_classroom_mark_sheet(
 ) -> u8
     ensures { result ≡ sheet_number (mark_sheet classroom (puzzle size rows.now columns.now) cells.now) }
 {
-    doppelblock_classroom::doppelblock_classroom_mark_sheet(size, rows, columns, cells)
+    host::mark_sheet(Unit::classroom(), size, rows, columns, cells)
 }
 
 // 0 where the count is the smaller of the cap and the number of grids that keep the puzzle and the marks, else the number of the refusal.
@@ -50,7 +52,7 @@ pub extern "C" fn doppelblock_classroom_count(
     ensures { (result, count.new) ≡ count_out
         (count_answer classroom (puzzle size rows.now columns.now) (marks_of marks.now) cap) count.old }
 {
-    doppelblock_classroom::doppelblock_classroom_count(size, rows, columns, marks, cap, count)
+    host::count(Unit::classroom(), size, rows, columns, marks, cap, count)
 }
 
 // UNSOLVABLE, UNIQUE or MULTIPLE, or the number of the refusal. The cells hold one of the grids, if there is one.
@@ -67,7 +69,7 @@ pub extern "C" fn doppelblock_classroom_solve(
         × SolveWritten classroom (puzzle size rows.now columns.now) (marks_of marks.now)
         cells.old cells.new }
 {
-    doppelblock_classroom::doppelblock_classroom_solve(size, rows, columns, marks, cells)
+    host::solve(Unit::classroom(), size, rows, columns, marks, cells)
 }
 
 // WRITTEN where the table holds the candidates that remain, CONTRADICTED where a cell has none, or the number of the refusal.
@@ -82,7 +84,7 @@ pub extern "C" fn doppelblock_classroom_candidates(
     ensures { TableNumbered classroom (puzzle size rows.now columns.now) (marks_of marks.now)
         result table.old table.new }
 {
-    doppelblock_classroom::doppelblock_classroom_candidates(size, rows, columns, marks, table)
+    host::candidates(Unit::classroom(), size, rows, columns, marks, table)
 }
 
 // The greatest size of the unit.
@@ -90,7 +92,7 @@ pub extern "C" fn doppelblock_classroom_candidates(
 pub extern "C" fn doppelblock_classroom_size_limit() -> usize
     ensures { result ≡ classroom.greatest }
 {
-    doppelblock_classroom::doppelblock_classroom_size_limit()
+    Unit::classroom().size_limit()
 }
 
 // The greatest number of marks in a list, or the greatest number of all where the unit takes any list.
@@ -98,5 +100,5 @@ pub extern "C" fn doppelblock_classroom_size_limit() -> usize
 pub extern "C" fn doppelblock_classroom_list_limit() -> usize
     ensures { result ≡ list_limit classroom }
 {
-    doppelblock_classroom::doppelblock_classroom_list_limit()
+    Unit::classroom().list_limit()
 }

@@ -12,10 +12,11 @@ ghost use Rattle.table_bytes.specs.Entries.{most_lent};
 ghost use Rattle.host.specs.Number.{TableNumbered, sheet_number, count_out, solve_number};
 
 use candidates::Outcome;
-use engine::{Counted, Solved};
-use sheet_marking::Marked;
+use engine::Verdict;
+use refusal::{Refusal, number_of};
 use units::Unit;
 
+// The numbers of the answers that are no refusals, as C knows them.
 #[derive(Clone, Copy)]
 pub struct Answer {
     pub number: u8,
@@ -37,28 +38,31 @@ impl Answer {
     pub const CONTRADICTED: u8 = 100;
 }
 
+// 0 where both target slices hold the sums, else the number of the refusal.
 pub fn target_sums(unit: Unit, size: usize, cells: &[u8], rows: &mut [u8], columns: &mut [u8]) -> u8
     ensures { (result, rows.new, columns.new) ≡ target_sums unit size cells.now rows.old columns.old }
 {
-    target_sums::number(target_sums::compute_targets(unit, size, cells, rows, columns))
+    number_of(target_sums::compute_targets(unit, size, cells, rows, columns))
 }
 
-fn sheet_number(answer: Marked) -> u8
+fn sheet_number(answer: Result<bool, Refusal>) -> u8
     ensures { result ≡ sheet_number answer }
 {
     match answer {
-        Marked::Refused(k) => k,
-        Marked::Right => Answer::RIGHT,
-        Marked::Wrong => Answer::WRONG,
+        Ok(true) => Answer::RIGHT,
+        Ok(false) => Answer::WRONG,
+        Err(refusal) => refusal.number(),
     }
 }
 
+// WRONG or RIGHT, or the number of the refusal.
 pub fn mark_sheet(unit: Unit, size: usize, rows: &[u8], columns: &[u8], cells: &[u8]) -> u8
     ensures { result ≡ sheet_number (mark_sheet unit (puzzle size rows.now columns.now) cells.now) }
 {
     sheet_number(sheet_marking::mark_sheet(unit, size, rows, columns, cells))
 }
 
+// 0 where the count is the smaller of the cap and the number of grids that keep the puzzle and the marks, else the number of the refusal.
 pub fn count(
     unit: Unit,
     size: usize,
@@ -72,25 +76,26 @@ pub fn count(
         (count_answer unit (puzzle size rows.now columns.now) (marks_of marks.now) cap) count.old }
 {
     match engine::count(unit, size, rows, columns, marks, cap) {
-        Counted::Refused(k) => k,
-        Counted::Count(c) => {
+        Ok(c) => {
             *count = c;
             0
         }
+        Err(refusal) => refusal.number(),
     }
 }
 
-fn solve_number(answer: Solved) -> u8
+fn solve_number(answer: Result<Verdict, Refusal>) -> u8
     ensures { result ≡ solve_number answer }
 {
     match answer {
-        Solved::Refused(k) => k,
-        Solved::Unsolvable => Answer::UNSOLVABLE,
-        Solved::Unique => Answer::UNIQUE,
-        Solved::Multiple => Answer::MULTIPLE,
+        Ok(Verdict::Unsolvable) => Answer::UNSOLVABLE,
+        Ok(Verdict::Unique) => Answer::UNIQUE,
+        Ok(Verdict::Multiple) => Answer::MULTIPLE,
+        Err(refusal) => refusal.number(),
     }
 }
 
+// UNSOLVABLE, UNIQUE or MULTIPLE, or the number of the refusal. The cells hold one of the grids, if there is one.
 pub fn solve(
     unit: Unit,
     size: usize,
@@ -121,15 +126,16 @@ fn candidates_by_entries(
         result table.old table.new }
 {
     match candidates::candidates(unit, size, rows, columns, marks, entries) {
-        Outcome::Refused(k) => k,
-        Outcome::Contradicted => Answer::CONTRADICTED,
-        Outcome::Written => {
+        Ok(Outcome::Written) => {
             table_bytes::write_entries(entries, table);
             Answer::WRITTEN
         }
+        Ok(Outcome::Contradicted) => Answer::CONTRADICTED,
+        Err(refusal) => refusal.number(),
     }
 }
 
+// WRITTEN where the table holds the candidates that remain, CONTRADICTED where a cell has none, or the number of the refusal.
 pub fn candidates(
     unit: Unit,
     size: usize,

@@ -7,31 +7,32 @@ ghost use Rattle.propagate.specs.Update.{UpdateAsk, UpdateDone};
 use arcs::update_arc;
 use queue_state::Slab;
 use singles::{update_black_consistency, update_hidden_singles, update_singleton};
+use value::Candidate;
 
 // All handlers of a strike.
-fn update(st: &mut [u16], words: &[u32], n: usize, r: usize, c: usize, v: usize)
-    requires { UpdateAsk n words.now st.old r c v }
-    ensures { UpdateDone n st.old st.new r c v }
+fn update(st: &mut [u16], words: &[u32], n: usize, x: Candidate)
+    requires { UpdateAsk n words.now st.old x.row x.column x.value }
+    ensures { UpdateDone n st.old st.new x.row x.column x.value }
 {
-    update_singleton(st, n, r, c, v);
-    update_hidden_singles(st, n, r, c, v);
-    update_black_consistency(st, n, r, c, v);
-    update_arc(st, words, n, r, c, v);
+    update_singleton(st, n, x);
+    update_hidden_singles(st, n, x);
+    update_black_consistency(st, n, x);
+    update_arc(st, words, n, x);
 }
 
-// Whether propagation came to rest; if not, a cell has no candidate.
+// Whether propagation came to rest; if not, a cell has no candidate. The queue grows while it is handled, so that no range says its end: a `while`.
 pub fn propagate(st: &mut [u16], words: &[u32], n: usize) -> bool
     requires { PropagateAsk n words.now st.old }
     ensures { Propagated n st.old st.new result }
 {
     let mut head = 0;
-    while head < st[Slab::TAIL] as usize {
-        let strike = st[Slab::QUEUE + head] as usize;
+    while head < usize::from(st[Slab::TAIL]) {
+        let strike = usize::from(st[Slab::QUEUE + head]);
         let cell = strike / 16;
         if st[cell] == 0 {
             return false;
         }
-        update(st, words, n, cell / 9, cell % 9, strike % 16);
+        update(st, words, n, Candidate::at(cell, strike % 16));
         head += 1;
     }
     st[Slab::TAIL] = 0;

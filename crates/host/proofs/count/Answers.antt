@@ -1,9 +1,10 @@
 -- `host::count` meets its contract. Assumes nothing.
+use mathlib.Core.Path.{ap, ◌∙◌, refl}
 use Rattle.host.proofs.NumberLaws.{count_refused, count_done}
 use Rattle.host.proofs.count.Goals as goal
 
-pub returns-in-Refused : goal.returns-in-Refused
-returns-in-Refused c = count_refused _ c.count.ensures c.in-Refused.is
+pub returns-in-Ok : goal.returns-in-Ok
+returns-in-Ok c = count_done _ c.in-Ok.ensures
 
-pub returns-in-Count : goal.returns-in-Count
-returns-in-Count c = count_done _ c.count.ensures c.in-Count.is
+pub returns-in-Err : goal.returns-in-Err
+returns-in-Err c = rw c.number.ensures (count_refused _ c.in-Err.ensures)
