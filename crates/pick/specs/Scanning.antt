@@ -1,5 +1,5 @@
 -- The best cell among those that were looked at. Assumes nothing.
-use Rattle.std.specs.Prelude.{ℕ, ◌*◌, ◌%◌, ◌≤◌, ◌<◌, ◌≡◌, List, length}
+use Rattle.std.specs.Prelude.{ℕ, ◌*◌, ◌%◌, ◌≤◌, ◌<◌, ◌≡◌, ◌⊎◌, List, length, Option, Some, None, MatchOption}
 use Rattle.queue_state.specs.Layout.{slab_size}
 use Rattle.queue_state.specs.Ready.{Ready}
 use Rattle.pick.specs.Choice.{row_choices, Open}
@@ -10,19 +10,19 @@ pub record PlaceAsk (l : List ℕ) (cell : ℕ) : Type 0 where
   pub size : length l ≡ slab_size
   pub place : cell < 81
 
--- The best cell after one more: the old one, or one with a choice.
-pub data Looked (best : Best) (cell free : ℕ) : Best → Type 0 where
-  settled : free < 2 → Looked best cell free best
-  worse : best.free ≤ free → Looked best cell free best
-  better : 2 ≤ free → Looked best cell free (record { cell = cell; free = free })
+-- The best cell after one more: the old one where that cell has no choice or no fewer candidates, else that cell, which has a choice.
+abbrev pub Looked : Option Best → ℕ → ℕ → Option Best → Type 0
+Looked best cell free next =
+    MatchOption next ((best ≡ None) × (free < 2))
+    (λ b. ((best ≡ Some b) × ((free < 2) ⊎ (b.free ≤ free))) ⊎ ((2 ≤ free) × (b ≡ record { cell = cell; free = free })))
 
--- The best of the cells before place k: an open cell, unless none of them is open.
-pub record Sought (n : ℕ) (l : List ℕ) (k : ℕ) (best : Best) : Type 0 where
-  pub found : (best.free ≡ 99 → ⊥) → Open n l best.cell
-  pub none : best.free ≡ 99 → (x : ℕ) → x < k → x % 9 < n → row_choices l x ≤ 1
+-- The best of the cells before place k: an open cell, or none of them is open.
+abbrev pub Sought : ℕ → List ℕ → ℕ → Option Best → Type 0
+Sought n l k (Some best) = Open n l best.cell
+Sought n l k None = (x : ℕ) → x < k → x % 9 < n → row_choices l x ≤ 1
 
 -- The best of the rows before row r.
-pub record BestRowAsk (n : ℕ) (l : List ℕ) (r : ℕ) (best : Best) : Type 0 where
+pub record BestRowAsk (n : ℕ) (l : List ℕ) (r : ℕ) (best : Option Best) : Type 0 where
   pub ready : Ready n l
   pub row : r < n
   pub sought : Sought n l (r * 9) best

@@ -2,22 +2,16 @@
 // Which cell and which value it takes is promised nowhere: the contract of `pick_branch` says what every rule has to keep.
 #![tactic(auto)]
 
-ghost use Rattle.std.specs.Prelude.{◌≡◌, ◌+◌, ◌*◌, ◌<◌};
+ghost use Rattle.std.specs.Prelude.{◌≡◌, ◌+◌, ◌*◌, ◌<◌, IsSomeAnd};
 ghost use Rattle.queue_state.specs.Ready.{Ready};
-ghost use Rattle.pick.specs.Choice.{row_choices, Candidate, Picked};
+ghost use Rattle.pick.specs.Choice.{row_choices, RowCandidate, Picked};
 ghost use Rattle.pick.specs.Scanning.{PlaceAsk, Looked, Sought, BestRowAsk};
 
 use queue_state::Slab;
-use value::Value;
+use std::cmp::Reverse;
+use value::{Bits, Candidate, Value};
 
-// A cell to branch on and the value to take there, or nothing where no cell has a choice.
-#[derive(Clone, Copy)]
-pub enum Pick {
-    At(usize, usize),
-    Nothing,
-}
-
-// The best cell so far and how many row-half candidates it has; 99 where there is none.
+// The best cell so far and how many row-half candidates it has.
 #[derive(Clone, Copy)]
 pub struct Best {
     pub cell: usize,
@@ -29,83 +23,66 @@ fn freedom(st: &[u16], cell: usize) -> u32
     requires { PlaceAsk st.now cell }
     ensures { result ≡ row_choices st.now cell }
 {
-    u16::count_ones(st[cell] & Value::ROW_HALF)
+    (st[cell] & Value::ROW_HALF).count_ones()
 }
 
 // The better of two cells: a choice at all, then the fewest candidates, then the first.
-fn look(best: Best, cell: usize, free: u32) -> Best
+fn look(best: Option<Best>, cell: usize, free: u32) -> Option<Best>
     ensures { Looked best cell free result }
 {
-    if free < 2 {
-        return best;
+    if free < 2 || best.is_some_and(|old| old.free <= free) {
+        best
+    } else {
+        Some(Best { cell, free })
     }
-    if best.free <= free {
-        return best;
-    }
-    Best { cell, free }
 }
 
 // Goes on through row r, up to a cell with two candidates.
-fn pick_row(st: &[u16], n: usize, r: usize, start: Best) -> Best
+fn pick_row(st: &[u16], n: usize, r: usize, start: Option<Best>) -> Option<Best>
     requires { BestRowAsk n st.now r start }
     ensures { Sought n st.now (r * 9 + 9) result }
 {
     let mut best = start;
-    let mut c = 0;
-    while c < n {
+    for c in 0..n {
         let cell = r * 9 + c;
         best = look(best, cell, freedom(st, cell));
-        if best.free == 2 {
+        if matches!(best, Some(Best { free: 2, .. })) {
             return best;
         }
-        c += 1;
     }
     best
 }
 
-fn pick_cell(st: &[u16], n: usize) -> Best
+fn pick_cell(st: &[u16], n: usize) -> Option<Best>
     requires { Ready n st.now }
     ensures { Sought n st.now (n * 9) result }
 {
-    let mut best = Best { cell: 81, free: 99 };
-    let mut r = 0;
-    while r < n {
+    let mut best = None;
+    for r in 0..n {
         best = pick_row(st, n, r, best);
-        if best.free == 2 {
+        if matches!(best, Some(Best { free: 2, .. })) {
             return best;
         }
-        r += 1;
     }
     best
 }
 
 // The row-half candidate of a cell with the least support in its row, the highest among equals.
-fn pick_value(st: &[u16], cell: usize) -> usize
+fn pick_value(st: &[u16], cell: usize) -> Option<usize>
     requires { (PlaceAsk st.now cell) × (0 < row_choices st.now cell) }
-    ensures { Candidate st.now cell result }
+    ensures { IsSomeAnd result (RowCandidate st.now cell) }
 {
-    let mut rest = st[cell] & Value::ROW_HALF;
-    let mut best = u16::trailing_zeros(rest) as usize;
-    let mut least = 65535u16;
-    while rest != 0 {
-        let v = u16::trailing_zeros(rest) as usize;
-        let support = st[Slab::SUPPORT + cell * 16 + v];
-        if support <= least {
-            best = v;
-            least = support;
-        }
-        rest = rest - (1u16 << v);
-    }
-    best
+    let rest = st[cell] & Value::ROW_HALF;
+    let support = Slab::SUPPORT + cell * 16;
+    Bits { rest }.max_by_key(|&v| Reverse(st[support + v]))
 }
 
-pub fn pick_branch(st: &[u16], n: usize) -> Pick
+// A cell to branch on and the value to take there, or nothing where no cell has a choice.
+pub fn pick_branch(st: &[u16], n: usize) -> Option<Candidate>
     requires { Ready n st.now }
     ensures { Picked n st.now result }
 {
-    let best = pick_cell(st, n);
-    if best.free == 99 {
-        return Pick::Nothing;
-    }
-    Pick::At(best.cell, pick_value(st, best.cell))
+    let best = pick_cell(st, n)?;
+    let value = pick_value(st, best.cell)?;
+    Some(Candidate::at(best.cell, value))
 }

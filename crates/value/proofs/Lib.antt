@@ -1,3 +1,4 @@
 -- What the proofs of several functions use.
 pub mod MaskLaws
 pub mod LowestLaws
+pub mod WalkLaws

@@ -2,13 +2,14 @@
 // Inside the engine a value is its own candidate bit: digit d is bit d, and the four blacks are bits 8 to 11 at every size.
 #![tactic(auto)]
 
-ghost use Rattle.std.specs.Prelude.{◌≡◌, ◌+◌, ◌*◌, ◌/◌, ◌%◌, ◌<◌, MatchOption};
+ghost use Rattle.std.specs.Prelude.{◌≡◌, ◌+◌, ◌*◌, ◌/◌, ◌%◌, ◌<◌};
 ghost use Rattle.std.specs.Iterator.{at_most};
 ghost use Rattle.rules.specs.Grid.{digits};
 ghost use Rattle.rules.specs.Check.{named};
 ghost use Rattle.rules.specs.Size.{Size};
 ghost use Rattle.table.specs.Table.{every_value};
-ghost use Rattle.value.specs.Mask.{mask_of, LowestOf};
+ghost use Rattle.value.specs.Mask.{mask_of};
+ghost use Rattle.value.specs.Walk.{LowestFirst};
 
 // A number of 16 bits as a place, a length or a value: asks no proof that it fits.
 pub fn wide(x: u16) -> usize
@@ -113,7 +114,7 @@ pub struct Bits {
 impl Iterator for Bits {
     type Item = usize;
 
-    ghost next_gives = { λ s r t. MatchOption r ((s.rest ≡ 0) × (t.rest ≡ 0)) (λ v. LowestOf s.rest v t.rest) };
+    ghost next_gives = { LowestFirst };
 
     ghost remaining = { λ s. at_most s.rest };
 
