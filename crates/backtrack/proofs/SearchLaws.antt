@@ -86,34 +86,31 @@ module _ {n : ℕ} {ws l₀ : List ℕ} {max : ℕ} {wanted : Bool} {cells₀ l 
 
   module _ (under : found < max) {l' : List ℕ} where
     -- no grid is left
-    pub turn_none : NoneLeft n l l' → {first : Bool} {r : ℕ} {cells' : List ℕ} → SettledAs n l' false first r cells cells' → Searched n l₀ max wanted (found + r) cells₀ cells'
-    turn_none a {r = r} s =
-        let z = s.none refl in
-        let same = s.untouched (inl refl) in
+    pub turn_none : NoneLeft n l l' → Searched n l₀ max wanted found cells₀ cells
+    turn_none a =
         record {
           count = λ p q k. let c = t.counts p q k in let m = a.none p q (t.kept p q k) in omega arith;
           most = let m = t.most in omega arith;
-          untouched = λ u. same ∙ t.untouched (⊎_elim (λ e. inl (omega arith)) inr u);
-          written = λ w h p q k. subst (FitGrid p l₀) (sym same) (t.written w (omega arith) p q k);
+          untouched = t.untouched;
+          written = t.written;
         }
 
     -- one grid is left
-    pub turn_one : OneLeft n l l' → {first : Bool} → first ≡ (wanted && eqb found 0) → {r : ℕ} {cells' : List ℕ} → SettledAs n l' true first r cells cells' →
-        Searched n l₀ max wanted (found + r) cells₀ cells'
-    turn_one a {first} e {r} {cells'} s =
-        let z = s.one refl in
+    pub turn_one : OneLeft n l l' → {first : Bool} → first ≡ (wanted && eqb found 0) → {cells' : List ℕ} → SettledAs n l' first cells cells' →
+        Searched n l₀ max wanted (found + 1) cells₀ cells'
+    turn_one a {first} e {cells'} s =
         record {
           count = λ p q k. let c = t.counts p q k in let m = a.one p q (t.kept p q k) in omega arith;
           most = let m = t.most in omega arith;
-          untouched = λ u. ⊎_elim (λ x. absurd (omega arith)) (λ x. s.untouched (inr (e ∙ rw x)) ∙ t.untouched (inr x)) u;
+          untouched = λ u. ⊎_elim (λ x. absurd (omega arith)) (λ x. s.untouched (e ∙ rw x) ∙ t.untouched (inr x)) u;
           written = λ w h p q k. go w p q k first refl;
         }
       where
         go : wanted ≡ true → (p : Puzzle) → p.size ≡ n → Kept p l₀ → (b : Bool) → first ≡ b → FitGrid p l₀ cells'
         go w p q k true f =
-            subst (FitGrid p l₀) (sym (s.written refl f)) (fit_within t.small q t.within (a.read p q (t.kept p q k)))
+            subst (FitGrid p l₀) (sym (s.written f)) (fit_within t.small q t.within (a.read p q (t.kept p q k)))
         go w p q k false f =
-            subst (FitGrid p l₀) (sym (s.untouched (inr f)))
+            subst (FitGrid p l₀) (sym (s.untouched f))
             (⊎_elim (λ x. absurd (true≢false (sym w ∙ x))) (λ x. t.written w x p q k) (not_first wanted found (sym e ∙ f)))
 
 -- ---- a branch
@@ -131,22 +128,37 @@ cap_left : (max found k : ℕ) → found < max → k ≤ max - found → found +
 cap_left max found k u h = omega arith
 
 module _ {n : ℕ} {ws l₀ : List ℕ} {max : ℕ} {wanted : Bool} {cells₀ l : List ℕ} {found : ℕ} {cells : List ℕ} (t : Turn n ws l₀ max wanted cells₀ l found cells)
-    (fits₀ : wanted ≡ true → length cells₀ ≡ n * n) (under : found < max) {l' : List ℕ} {x v : ℕ} (a : Branching n ws l l' x v) where
+    (fits₀ : wanted ≡ true → length cells₀ ≡ n * n) (under : found < max) {l' : List ℕ} {i j v : ℕ} (cell : (i < n) × (j < n) × Branching n ws l l' (i * 9 + j) v) where
+  abbrev x : ℕ
+  x = i * 9 + j
+
+  a : Branching n ws l l' x v
+  a = cell.2
+
   ready' : Ready n l'
   ready' = a.propagable.lagging.ready
 
-  pub turn_ask : {l₁ : List ℕ} → l₁ ≡ l' → SetAsk n l₁ (x / 9) (x % 9) v
+  small : n ≤ 9
+  small = t.small
+
+  at_row : x / 9 ≡ i
+  at_row = omega arith
+
+  at_column : x % 9 ≡ j
+  at_column = omega arith
+
+  pub turn_ask : {l₁ : List ℕ} → l₁ ≡ l' → SetAsk n l₁ i j v
   turn_ask e =
-      subst (λ y. SetAsk n y (x / 9) (x % 9) v) (sym e) (record {
+      subst (λ y. SetAsk n y i j v) (sym e) (record {
         ready = ready';
-        row = a.branch.opened.row;
-        column = a.branch.opened.column;
+        row = cell.0;
+        column = cell.1;
         value = branch_value ready' a.branch;
       })
 
-  module _ {l₁ l₂ : List ℕ} (e : l₁ ≡ l') (s₁ : Struck l₁ l₂ (SetHit (x / 9) (x % 9) v)) where
+  module _ {l₁ l₂ : List ℕ} (e : l₁ ≡ l') (s₁ : Struck l₁ l₂ (SetHit i j v)) where
     s : Struck l' l₂ (SetHit (x / 9) (x % 9) v)
-    s = subst (λ y. Struck y l₂ (SetHit (x / 9) (x % 9) v)) e s₁
+    s = rw (at_row, at_column) (subst (λ y. Struck y l₂ (SetHit i j v)) e s₁)
 
     pub turn_searchable : {first : Bool} → first ≡ (wanted && eqb found 0) → SearchAsk n ws l₂ first (length cells)
     turn_searchable f =

@@ -1,5 +1,5 @@
 -- What the search counts and writes. Assumes nothing.
-use Rattle.std.specs.Prelude.{ℕ, ◌*◌, ◌≤◌, ◌<◌, min, ◌≡◌, Bool, true, false, ◌⊎◌, List, length}
+use Rattle.std.specs.Prelude.{ℕ, ◌+◌, ◌*◌, ◌≤◌, ◌<◌, min, ◌≡◌, Bool, true, false, ◌⊎◌, List, length}
 use Rattle.rules.specs.Grid.{Puzzle}
 use Rattle.table.specs.Table.{left, fits}
 use Rattle.table.specs.Reading.{read_off}
@@ -43,19 +43,17 @@ pub record NoneLeft (n : ℕ) (l l' : List ℕ) : Type 0 where
 abbrev pub Advanced : ℕ → List ℕ → List ℕ → List ℕ → Next → Type 0
 Advanced n ws l l' Contradicted = NoneLeft n l l'
 Advanced n ws l l' Settled = OneLeft n l l'
-Advanced n ws l l' (next.Branch x v) = Branching n ws l l' x v
+Advanced n ws l l' (next.Branch x) = (x.row < n) × (x.column < n) × Branching n ws l l' (x.row * 9 + x.column) x.value
 
--- What the end of a branch asks and gives.
-pub record SettleAsk (n : ℕ) (l : List ℕ) (settled wanted : Bool) (room : ℕ) : Type 0 where
-  pub ready : settled ≡ true → Ready n l
+-- What the end of a branch asks.
+pub record SettleAsk (n : ℕ) (l : List ℕ) (wanted : Bool) (room : ℕ) : Type 0 where
+  pub ready : Ready n l
   pub fits : wanted ≡ true → room ≡ n * n
 
--- The end of a branch: no grid, or the one of a settled table, written if it is wanted.
-pub record SettledAs (n : ℕ) (l : List ℕ) (settled wanted : Bool) (r : ℕ) (cells cells' : List ℕ) : Type 0 where
-  pub none : settled ≡ false → r ≡ 0
-  pub one : settled ≡ true → r ≡ 1
-  pub untouched : (settled ≡ false) ⊎ (wanted ≡ false) → cells' ≡ cells
-  pub written : settled ≡ true → wanted ≡ true → cells' ≡ read_off n (table_in l)
+-- The grid of a settled table, written if it is wanted.
+pub record SettledAs (n : ℕ) (l : List ℕ) (wanted : Bool) (cells cells' : List ℕ) : Type 0 where
+  pub untouched : wanted ≡ false → cells' ≡ cells
+  pub written : wanted ≡ true → cells' ≡ read_off n (table_in l)
 
 -- A state that may be searched, with room for the grid if it is wanted.
 pub record SearchAsk (n : ℕ) (ws l : List ℕ) (wanted : Bool) (room : ℕ) : Type 0 where

@@ -1,5 +1,5 @@
 // The search (in the Rust: backtrack.rs). It calls itself on the branch that takes a candidate, so that it is at most n * n deep, and goes on in a loop
-// on the branch that rejects it.
+// on the branch that rejects it: no range says how often, so the loop is a `while`.
 #![tactic(auto)]
 
 ghost use Rattle.std.specs.Prelude.{◌≡◌, ◌&&◌, ◌*◌, eqb, length};
@@ -7,17 +7,19 @@ ghost use Rattle.invariants.specs.State.{PropagateAsk};
 ghost use Rattle.backtrack.specs.Search.{Advanced, SearchAsk, Searched, SettleAsk, SettledAs};
 
 use copy::copy;
-use pick::{Pick, pick_branch};
+use pick::pick_branch;
 use propagate::propagate;
 use queue_state::{Slab, clear_value};
 use set_cell::set_cell;
+use value::Candidate;
 use written::write_grid;
 
-#[derive(Clone, Copy)]
+// What a step forward found: no grid, one, or a candidate to branch on.
+#[derive(Clone, Copy, Debug, PartialEq, Eq)]
 pub enum Next {
     Contradicted,
     Settled,
-    Branch(usize, usize),
+    Branch(Candidate),
 }
 
 // Propagates; then the candidate to branch on, if there is a choice.
@@ -28,10 +30,9 @@ fn advance(st: &mut [u16], words: &[u32], n: usize) -> Next
     if !propagate(st, words, n) {
         return Next::Contradicted;
     }
-    let picked = pick_branch(st, n);
-    match picked {
-        Pick::At(cell, v) => Next::Branch(cell, v),
-        Pick::Nothing => Next::Settled,
+    match pick_branch(st, n) {
+        Some(x) => Next::Branch(x),
+        None => Next::Settled,
     }
 }
 
@@ -39,21 +40,17 @@ fn advance(st: &mut [u16], words: &[u32], n: usize) -> Next
 fn is_first(wanted: bool, found: u64) -> bool
     ensures { result ≡ (wanted && eqb found 0) }
 {
-    if wanted { found == 0 } else { false }
+    wanted && found == 0
 }
 
-// The end of a branch: no grid, or the one of a settled table, which is written if it is wanted.
-fn settle(st: &[u16], n: usize, settled: bool, wanted: bool, cells: &mut [u8]) -> u64
-    requires { SettleAsk n st.now settled wanted (length cells.old) }
-    ensures { SettledAs n st.now settled wanted result cells.old cells.new }
+// The grid of a settled table is written if it is wanted.
+fn settle(st: &[u16], n: usize, wanted: bool, cells: &mut [u8])
+    requires { SettleAsk n st.now wanted (length cells.old) }
+    ensures { SettledAs n st.now wanted cells.old cells.new }
 {
-    if !settled {
-        return 0;
-    }
     if wanted {
         write_grid(st, n, cells);
     }
-    1
 }
 
 // The number of grids that fit, at most max; the first is written to cells if it is wanted.
@@ -70,27 +67,19 @@ pub fn search(
 {
     let mut found = 0u64;
     while found < max {
-        let next = advance(st, words, n);
-        match next {
-            Next::Contradicted => {
-                return found + settle(st, n, false, is_first(wanted, found), cells);
-            }
+        let first = is_first(wanted, found);
+        match advance(st, words, n) {
+            Next::Contradicted => return found,
             Next::Settled => {
-                return found + settle(st, n, true, is_first(wanted, found), cells);
+                settle(st, n, first, cells);
+                return found + 1;
             }
-            Next::Branch(cell, v) => {
+            Next::Branch(x) => {
                 let mut other = [0u16; Slab::SIZE];
                 copy(st, &mut other);
-                set_cell(&mut other, n, cell / 9, cell % 9, v);
-                found += search(
-                    &mut other,
-                    words,
-                    n,
-                    max - found,
-                    is_first(wanted, found),
-                    cells,
-                );
-                clear_value(st, cell, v);
+                set_cell(&mut other, n, x);
+                found += search(&mut other, words, n, max - found, first, cells);
+                clear_value(st, x.cell(), x.value);
             }
         }
     }

@@ -1,6 +1,6 @@
 -- `backtrack::search` meets its contract. Assumes nothing.
-use mathlib.Core.Path.{◌≡◌, refl, sym, ◌∙◌}
-use mathlib.Core.Bool.{Bool, true, ◌&&◌, true≢false}
+use mathlib.Core.Path.{◌≡◌, sym, ◌∙◌}
+use mathlib.Core.Bool.{Bool, true, ◌&&◌}
 use mathlib.Core.List.{List}
 use native.Mathlib.Omega.{arith}
 use lib.Dec.{eqb}
@@ -19,37 +19,19 @@ first_fits t s f e = t.room ∙ s.fits (and_left _ _ (sym f ∙ e))
 pub loop-found-init : goal.loop-found-init
 loop-found-init t c = turn_start _ c.requires
 
-pub settle-requires : goal.settle-requires
-settle-requires t c = record { ready = λ e. absurd (true≢false (sym e)); fits = first_fits c.loop-found.invariant c.requires c.is_first.ensures }
-
-pub overflow_add-result : goal.overflow_add-result
-overflow_add-result t c = omega (arith, c.loop-found-test.true, c.settle.ensures.none refl)
-
 pub returns-in-Contradicted : goal.returns-in-Contradicted
-returns-in-Contradicted t c =
-    let a = c.in-Contradicted.ensures in
-    turn_none c.loop-found.invariant (omega (arith, c.loop-found-test.true)) a c.settle.ensures
+returns-in-Contradicted t c = turn_none c.loop-found.invariant c.loop-found-test.true c.in-Contradicted.ensures
 
-pub settle-requires-in-Settled : goal.settle-requires-in-Settled
-settle-requires-in-Settled t c =
-    let a = c.in-Settled.ensures in
-    record { ready = λ _. a.ready; fits = first_fits c.loop-found.invariant c.requires c.is_first-in-Settled.ensures }
-
-pub overflow_add-result-in-Settled : goal.overflow_add-result-in-Settled
-overflow_add-result-in-Settled t c = omega (arith, c.loop-found-test.true, c.settle-in-Settled.ensures.one refl)
+pub settle-requires : goal.settle-requires
+settle-requires t c =
+    record { ready = c.in-Settled.ensures.ready; fits = first_fits c.loop-found.invariant c.requires c.is_first-first.ensures }
 
 pub returns-in-Settled : goal.returns-in-Settled
-returns-in-Settled t c =
-    let a = c.in-Settled.ensures in
-    turn_one c.loop-found.invariant (omega (arith, c.loop-found-test.true)) a c.is_first-in-Settled.ensures c.settle-in-Settled.ensures
+returns-in-Settled t c = turn_one c.loop-found.invariant c.loop-found-test.true c.in-Settled.ensures c.is_first-first.ensures c.settle.ensures
 
 pub set_cell-requires : goal.set_cell-requires
 set_cell-requires t c =
-    let u = c.loop-found.invariant in
-    let f = c.requires.fits in
-    let h = c.loop-found-test.true in
-    let a = c.in-Branch.ensures in
-    turn_ask u f h a c.copy.ensures
+    turn_ask c.loop-found.invariant c.requires.fits c.loop-found-test.true c.in-Branch.ensures c.copy.ensures
 
 pub search-found-requires : goal.search-found-requires
 search-found-requires t c =
@@ -59,16 +41,22 @@ search-found-requires t c =
     let a = c.in-Branch.ensures in
     let e = c.copy.ensures in
     let d = c.set_cell.ensures in
-    (rw (← c.decreases) (turn_fewer u f h a e d), turn_searchable u f h a e d c.is_first-in-Branch.ensures)
+    (rw (← c.decreases) (turn_fewer u f h a e d), turn_searchable u f h a e d c.is_first-first.ensures)
 
 pub overflow_add-found : goal.overflow_add-found
 overflow_add-found t c = omega (arith, c.loop-found-test.true, c.search-found.ensures.most, c.ranges.max)
 
+pub cell-requires : goal.cell-requires
+cell-requires t c =
+    let b = c.in-Branch.ensures in
+    let z = b.2.propagable.lagging.ready.size.high in
+    (omega (arith, b.0), omega (arith, b.1))
+
 pub clear_value-requires : goal.clear_value-requires
 clear_value-requires t c =
-    let a = c.in-Branch.ensures in
-    let z = a.propagable.lagging.ready in
-    (z.sized, omega (arith, z.size.high, a.branch.opened.row), omega (arith, a.branch.candidate.high))
+    let b = c.in-Branch.ensures in
+    let z = b.2.propagable.lagging.ready in
+    (z.sized, omega (arith, c.cell.ensures, z.size.high, b.0, b.1), omega (arith, b.2.branch.candidate.high))
 
 pub loop-found-smaller : goal.loop-found-smaller
 loop-found-smaller t c =
@@ -78,9 +66,9 @@ loop-found-smaller t c =
     let a = c.in-Branch.ensures in
     let e = c.copy.ensures in
     let d = c.set_cell.ensures in
-    let i = c.is_first-in-Branch.ensures in
+    let i = c.is_first-first.ensures in
     let r = c.search-found.ensures in
-    let g = c.clear_value.ensures in
+    let g = rw c.cell.ensures at c.clear_value.ensures in
     turn_less u f h a e d i r c.search-found.auto.cells g
 
 pub loop-found-preserved : goal.loop-found-preserved
@@ -91,9 +79,9 @@ loop-found-preserved t c =
     let a = c.in-Branch.ensures in
     let e = c.copy.ensures in
     let d = c.set_cell.ensures in
-    let i = c.is_first-in-Branch.ensures in
+    let i = c.is_first-first.ensures in
     let r = c.search-found.ensures in
-    let g = c.clear_value.ensures in
+    let g = rw c.cell.ensures at c.clear_value.ensures in
     turn_again u f h a e d i r c.search-found.auto.cells g
 
 pub returns : goal.returns

@@ -7,19 +7,19 @@ returns-then-not-propagate c =
     advance_none c.requires.lagging.ready.size.high
     c.if-not-propagate.true c.propagate.ensures
 
-pub pick_branch-picked-requires : goal.pick_branch-picked-requires
-pick_branch-picked-requires c =
+pub pick_branch-requires : goal.pick_branch-requires
+pick_branch-requires c =
     advance_ready c.requires.lagging.ready.size.high
     c.if-not-propagate.false c.propagate.ensures
 
-pub returns-in-At : goal.returns-in-At
-returns-in-At c =
+pub returns-in-Some : goal.returns-in-Some
+returns-in-Some c =
     let pre = c.requires in
-    advance_branch pre.lagging.ready.size.high c.if-not-propagate.false
-    c.propagate.ensures pre.words c.in-At.ensures
+    let b = c.in-Some.ensures in
+    (b.0, b.1, advance_branch pre.lagging.ready.size.high c.if-not-propagate.false c.propagate.ensures pre.words b.2)
 
-pub returns-in-Nothing : goal.returns-in-Nothing
-returns-in-Nothing c =
+pub returns-in-None : goal.returns-in-None
+returns-in-None c =
     let pre = c.requires in
     advance_one pre.lagging.ready.size.high c.if-not-propagate.false
-    c.propagate.ensures c.in-Nothing.ensures
+    c.propagate.ensures c.in-None.ensures
