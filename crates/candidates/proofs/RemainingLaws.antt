@@ -215,7 +215,11 @@ pub tabled_done : {p : Puzzle} {ms table table' : List ℕ} → WrittenTable p m
 tabled_done w = record { done = λ _. w; none = λ e. absurd (true≢false e) }
 
 pub table_refused : {u : Unit} {p : Puzzle} {ms table : List ℕ} (k : Refusal) → Err k ≡ checked (solve_checks u p ms (length table)) → TableGiven u p ms (Err k) table table
-table_refused k d = record { refused = λ j e. (d ∙ e, refl); answered = λ e. let z : Err k ≡ Ok tt = d ∙ e in cc }
+table_refused k d =
+    record {
+      refused = λ j e. let z : ◌≡◌ {A = Result ⊤ Refusal} (Err k) (Err j) = d ∙ e in let q : k ≡ j = cc in (ap Err q, refl);
+      answered = λ e. let z : ◌≡◌ {A = Result ⊤ Refusal} (Err k) (Ok tt) = d ∙ e in cc;
+    }
 
 module _ {u : Unit} {p : Puzzle} {ms table table' : List ℕ} {b : Bool} (d : Ok tt ≡ checked (solve_checks u p ms (length table))) (t : Tabled p ms b table table') where
   pub table_written : b ≡ true → TableGiven u p ms (Ok Written) table table'

@@ -24,6 +24,7 @@ use Rattle.engine.specs.declared.Verdict.TheVariants.{Unique, Multiple}
 use Rattle.engine.specs.Answer.{count_answer, verdict_on, solve_answer, SolveWritten}
 use Rattle.engine.proofs.CountLaws.{count_asked}
 use Rattle.engine.proofs.SolveLaws.{solve_counts}
+use Rattle.corollaries.specs.CountLaws.{answer_counted}
 use Rattle.corollaries.specs.VerdictLaws.{one_answered}
 use Rattle.sheet_marking.specs.Answer.{mark_sheet}
 
@@ -81,6 +82,7 @@ pub none_right : (u : Unit) (p : Puzzle) (cap : ℕ) → 0 < cap → count_answe
 unfolding capped
 none_right u p cap h a cells e =
     let r = right_counted u p cells e in
+    let z = answer_counted u p [] cap r.0 in
     let is : min cap (number p []) ≡ 0 = cc in
     zero_none p [] (count_size u p r.0).high (omega arith) cells r.1
 

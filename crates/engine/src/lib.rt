@@ -93,7 +93,7 @@ fn solve_grids(n: usize, rows: &[u8], columns: &[u8], marks: &[u8], cells: &mut 
     search(&mut st, &words, n, 2, true, cells)
 }
 
-fn verdict(found: u64) -> Verdict
+fn verdict_of(found: u64) -> Verdict
     ensures { result ≡ verdict_on found }
 {
     match found {
@@ -116,5 +116,5 @@ pub fn solve(
         × SolveWritten unit (puzzle size rows.now columns.now) (marks_of marks.now) cells.old cells.new }
 {
     check_solve(unit, size, rows, columns, marks, cells.len())?;
-    Ok(verdict(solve_grids(size, rows, columns, marks, cells)))
+    Ok(verdict_of(solve_grids(size, rows, columns, marks, cells)))
 }

@@ -14,4 +14,4 @@ pub solve_grids-requires : goal.solve_grids-requires
 solve_grids-requires c = solve_asked c.args.unit _ _ _ (passed_number _ (sym c.in_ok-check_solve.ensures))
 
 pub returns : goal.returns
-returns c = solve_done _ c.in_ok-check_solve.ensures c.solve_grids.ensures c.verdict.ensures
+returns c = solve_done _ c.in_ok-check_solve.ensures c.solve_grids.ensures c.verdict_of.ensures
