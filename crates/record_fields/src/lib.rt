@@ -2,45 +2,83 @@
 // that is not whole is empty.
 #![tactic(auto)]
 
-ghost use Rattle.std.specs.Prelude.{◌≡◌, ◌∷◌, [], ◌≤◌, ◌<◌, length, get_or, take};
-ghost use Rattle.record_fields.specs.Fields.{field_start, field_count, field as field_of, record_size, number_from, readable};
+ghost use Rattle.std.specs.Prelude.{◌≡◌, ◌≢◌, ◌∷◌, [], ◌≤◌, ◌<◌, true, false, length, get_or, MatchOption};
+ghost use Rattle.record_fields.specs.Fields.{tag, field_start, field_count, field as field_of, record_size, readable};
+ghost use Rattle.record_fields.specs.Calls.{tag_of};
 ghost use Rattle.record_fields.specs.Recorded.{Says, SumsRecorded, LongNumber, CountRecorded, BufferRecorded};
 
-use puzzle::wide;
+use std::fmt;
 
-// Byte i of a list.
-pub fn byte(list: &[u8], i: usize) -> usize
-    ensures { (result ≡ get_or list.now i 0) × (result < 256) }
-{
-    if i < list.len() {
-        return wide(list[i]);
-    }
-    0
+// The call that a record is of.
+#[derive(Clone, Copy, PartialEq, Eq)]
+pub enum Call {
+    TargetSums,
+    MarkSheet,
+    Candidates,
+    Count,
+    Solve,
+    LineCheck,
 }
 
-// How many fields a record with this tag has; 0 for a tag that no call has.
-pub fn field_count(tag: usize) -> usize
-    ensures { (result ≡ field_count tag) × (result ≤ 8) }
+impl Call {
+    pub const ALL: [Call; 6] = [
+        Call::TargetSums,
+        Call::MarkSheet,
+        Call::Candidates,
+        Call::Count,
+        Call::Solve,
+        Call::LineCheck,
+    ];
+
+    // The call whose records have this tag.
+    #[tactic(auto, unfolding(crate::specs::Fields::field_count))]
+    fn from_tag(tag: u8) -> Option<Call>
+        ensures { MatchOption result (field_count tag ≡ 0) (λ call. tag_of call ≡ tag) }
+    {
+        match tag {
+            1 => Some(Call::TargetSums),
+            2 => Some(Call::MarkSheet),
+            3 => Some(Call::Candidates),
+            4 => Some(Call::Count),
+            5 => Some(Call::Solve),
+            6 => Some(Call::LineCheck),
+            _ => None,
+        }
+    }
+
+    // How many fields its records have.
+    #[tactic(auto, unfolding(crate::specs::Fields::field_count))]
+    pub fn field_count(self) -> usize
+        ensures is { result ≡ field_count (tag_of self) }
+        ensures most { result ≤ 8 }
+    {
+        match self {
+            Call::LineCheck => 4,
+            Call::MarkSheet => 5,
+            Call::TargetSums | Call::Candidates | Call::Solve => 7,
+            Call::Count => 8,
+        }
+    }
+}
+
+impl fmt::Display for Call {
+    fn fmt<W: fmt::Write>(&self, f: &mut fmt::Formatter<W>) -> fmt::Result {
+        f.write_str(match self {
+            Call::TargetSums => "target sums",
+            Call::MarkSheet => "mark sheet",
+            Call::Candidates => "candidates",
+            Call::Count => "count",
+            Call::Solve => "solve",
+            Call::LineCheck => "check of a line",
+        })
+    }
+}
+
+// Byte i of a list.
+pub fn byte(list: &[u8], i: usize) -> u8
+    ensures { result ≡ get_or list.now i 0 }
 {
-    if tag == 1 {
-        return 7;
-    }
-    if tag == 2 {
-        return 5;
-    }
-    if tag == 3 {
-        return 7;
-    }
-    if tag == 4 {
-        return 8;
-    }
-    if tag == 5 {
-        return 7;
-    }
-    if tag == 6 {
-        return 4;
-    }
-    0
+    list.get(i).copied().unwrap_or(0)
 }
 
 // Where field k begins.
@@ -49,10 +87,8 @@ pub fn field_start(list: &[u8], k: usize) -> usize
     ensures { (result ≡ field_start list.now k) × (result < 1000000) }
 {
     let mut at = 1;
-    let mut i = 0;
-    while i < k {
-        at = at + 2 + byte(list, at) * 256 + byte(list, at + 1);
-        i += 1;
+    for _ in 0..k {
+        at += 2 + usize::from(u16::from_be_bytes([byte(list, at), byte(list, at + 1)]));
     }
     at
 }
@@ -64,47 +100,30 @@ pub fn field(list: &[u8], k: usize) -> &[u8]
 {
     let start = field_start(list, k) + 2;
     let end = field_start(list, k + 1);
-    if list.len() < end {
-        return &list[..0];
-    }
-    &list[start..end]
+    list.get(start..end).unwrap_or(&[])
 }
 
 // The number that 8 bytes are, most significant first.
-pub fn number(bytes: &[u8]) -> u64
-    requires { length bytes.now ≡ 8 }
-    ensures { result ≡ number_from 0 bytes.now }
+pub fn number(bytes: &[u8]) -> Option<u64>
+    ensures { MatchOption result (length bytes.now ≢ 8) (λ v. LongNumber v bytes.now) }
 {
-    let mut v = 0;
-    let mut i = 0;
-    while i < bytes.len() {
-        v = v * 256 + byte(bytes, i);
-        i += 1;
-    }
-    v as u64
+    bytes.as_array().map(|bytes| u64::from_be_bytes(*bytes))
 }
 
-// Whether the list begins with a whole record of a known tag, whose size is one byte.
-pub fn is_readable(list: &[u8]) -> bool
-    ensures { result ≡ readable list.now }
+// The call of the record that the list begins with, if it is whole and its size is one byte.
+pub fn readable_call(list: &[u8]) -> Option<Call>
+    ensures { MatchOption result (readable list.now ≡ false) (λ call. (readable list.now ≡ true) × (tag_of call ≡ tag list.now)) }
 {
-    let count = field_count(byte(list, 0));
-    if count == 0 {
-        return false;
-    }
-    if list.len() < field_start(list, count) {
-        return false;
-    }
-    field(list, 0).len() == 1
+    let call = Call::from_tag(byte(list, 0))?;
+    let end = field_start(list, call.field_count());
+    (end <= list.len() && field(list, 0).len() == 1).then_some(call)
 }
 
-// The room for a slice that a call writes to.
-pub const ROOM: usize = 256;
-
+// The size that the call is given.
 pub fn size(list: &[u8]) -> usize
     ensures { result ≡ record_size list.now }
 {
-    byte(field(list, 0), 0)
+    usize::from(byte(field(list, 0), 0))
 }
 
 // Whether field k is these bytes.
@@ -120,41 +139,21 @@ pub fn is_number(list: &[u8], k: usize, number: u8) -> bool
     requires { k < 8 }
     ensures { Says result (field_of list.now k ≡ number ∷ []) }
 {
-    let content = [number];
-    is_field(list, k, &content)
-}
-
-// A buffer that begins with the content of a field.
-pub fn buffer(content: &[u8]) -> [u8; 256]
-    requires { length content.now ≤ 256 }
-    ensures { (length result ≡ 256) × (take (length content.now) result ≡ content.now) }
-{
-    let mut room = [0u8; 256];
-    room[..content.len()].copy_from_slice(content);
-    room
+    is_field(list, k, &[number])
 }
 
 // Whether a number and two target slices are as recorded.
 pub fn sums_recorded(list: &[u8], number: u8, rows: &[u8], columns: &[u8]) -> bool
     ensures { Says result (SumsRecorded number rows.now columns.now list.now) }
 {
-    if !is_number(list, 4, number) {
-        return false;
-    }
-    if !is_field(list, 5, rows) {
-        return false;
-    }
-    is_field(list, 6, columns)
+    is_number(list, 4, number) && is_field(list, 5, rows) && is_field(list, 6, columns)
 }
 
 // Whether a number and a buffer are as recorded.
 pub fn buffer_recorded(list: &[u8], number: u8, content: &[u8]) -> bool
     ensures { Says result (BufferRecorded number content.now list.now) }
 {
-    if !is_number(list, 5, number) {
-        return false;
-    }
-    is_field(list, 6, content)
+    is_number(list, 5, number) && is_field(list, 6, content)
 }
 
 // Whether field k is 8 bytes, the number.
@@ -162,19 +161,12 @@ pub fn is_long_number(list: &[u8], k: usize, v: u64) -> bool
     requires { k < 8 }
     ensures { Says result (LongNumber v (field_of list.now k)) }
 {
-    let bytes = field(list, k);
-    if bytes.len() != 8 {
-        return false;
-    }
-    number(bytes) == v
+    number(field(list, k)) == Some(v)
 }
 
 // Whether a number and a count are as recorded.
 pub fn count_recorded(list: &[u8], answer: u8, count: u64) -> bool
     ensures { Says result (CountRecorded answer count list.now) }
 {
-    if !is_number(list, 6, answer) {
-        return false;
-    }
-    is_long_number(list, 7, count)
+    is_number(list, 6, answer) && is_long_number(list, 7, count)
 }

@@ -6,38 +6,26 @@ ghost use Rattle.std.specs.Prelude.{◌≡◌, ◌≢◌, ◌≤◌, ◌<◌, le
 ghost use Rattle.std.specs.Io.KnownBytes.{Consumes, IsAtEnd};
 ghost use Rattle.std.specs.IoError.{error_kind};
 
-use replay_records::{Tally, first_difference, replay_list};
+use record_fields::Call;
+use replay_records::{first_difference, replay_list};
 use std::io;
 use std::io::{ErrorKind, Read};
 
-// A line such as "target sums: 213 replayed, 0 differ".
-fn print_tally(rt: &impl Print, call: &str, t: Tally, counted: &str) -> io::Result<()> {
-    let replayed = t.replayed;
-    let differ = t.differ;
-    println!(rt; "{call}{replayed}{counted}{differ} differ")
-}
-
-fn print_first_difference(rt: &impl Print, list: &[u8]) -> io::Result<()> {
-    let at = first_difference(list);
-    println!(rt; "the first at byte {at}")
-}
-
-// The line of one call.
-fn print_call(rt: &impl Print, call: &str, list: &[u8], tag: usize) -> io::Result<()> {
-    print_tally(rt, call, replay_list(list, tag, tag), " replayed, ")
-}
-
+// A line such as "target sums: 213 replayed, 0 differ" for each call, and one for all.
 fn print_report(rt: &impl Print, list: &[u8]) -> io::Result<()> {
-    print_call(rt, "target sums: ", list, 1)?;
-    print_call(rt, "mark sheet: ", list, 2)?;
-    print_call(rt, "candidates: ", list, 3)?;
-    print_call(rt, "count: ", list, 4)?;
-    print_call(rt, "solve: ", list, 5)?;
-    print_call(rt, "check of a line: ", list, 6)?;
-    let all = replay_list(list, 0, 255);
-    print_tally(rt, "", all, " answers, ")?;
-    if 0 < all.differ {
-        print_first_difference(rt, list)?;
+    for call in Call::ALL {
+        let tally = replay_list(list, Some(call));
+        println!(rt;
+            "{call}: {} replayed, {} differ",
+            tally.replayed, tally.differ
+        )?;
+    }
+    let all = replay_list(list, None);
+    println!(rt; "{} answers, {} differ", all.replayed, all.differ)?;
+    if 0 < all.differ
+        && let Some(at) = first_difference(list)
+    {
+        println!(rt; "the first at byte {at}")?;
     }
     Ok(())
 }
@@ -57,11 +45,8 @@ fn read_full<R: Read>(reader: &mut R, room: &mut [u8]) -> io::Result<usize>
         match reader.read(&mut room[done..]) {
             Ok(0) => return Ok(done),
             Ok(n) => done += n,
-            Err(e) => {
-                if e.kind() != ErrorKind::Interrupted {
-                    return Err(e);
-                }
-            }
+            Err(e) if e.kind() == ErrorKind::Interrupted => {}
+            Err(e) => return Err(e),
         }
     }
     Err(io::Error::from(ErrorKind::TimedOut))
@@ -77,7 +62,7 @@ fn room() -> [u8; 131072]
 fn main(rt: HostRuntime) -> io::Result<()> {
     let mut list = room();
     let n = read_full(&mut rt.stdin(), &mut list)?;
-    if n < 131072 {
+    if n < list.len() {
         print_report(&rt, &list[..n])
     } else {
         println!(rt; "the list is too long: it differs")

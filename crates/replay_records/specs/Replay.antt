@@ -1,7 +1,8 @@
 -- A list of answers, record by record: what replaying finds and counts. Assumes nothing.
-use Rattle.std.specs.Prelude.{ℕ, ◌+◌, ◌≤◌, ◌<◌, ◌≡◌, Bool, true, false, ◌&&◌, not, cond, List, [], leb, eqb, length, drop}
+use Rattle.std.specs.Prelude.{ℕ, ◌+◌, ◌≤◌, ◌<◌, ◌≡◌, Bool, true, false, ◌&&◌, not, cond, List, [], leb, eqb, length, drop, Option, None, Some}
 use Rattle.replay_records.specs.declared.Outcome.{Outcome}
-use Rattle.replay_records.specs.declared.Tally.{Tally}
+use Rattle.record_fields.specs.declared.Call.{Call}
+use Rattle.record_fields.specs.Calls.{tag_of}
 use Rattle.record_fields.specs.Fields.{tag, readable, record_length}
 use Rattle.record_fields.specs.Recorded.{Says}
 use Rattle.replay_records.specs.Agreement.{SumsAgree, SheetAgrees, LineAgrees}
@@ -35,9 +36,14 @@ pub record RecordTested (r : Bool) (xs : List ℕ) : Type 0 where
   pub read : readable xs ≡ true → Finds r xs
   pub unread : readable xs ≡ false → r ≡ false
 
+-- The kind that a call names, or 0 where there is none.
+abbrev pub kind_of : Option Call → ℕ
+kind_of None = 0
+kind_of (Some call) = tag_of call
+
 -- What replaying the first record of a list gives. The bounds follow from the length.
 pub record Replayed (xs : List ℕ) (o : Outcome) : Type 0 where
-  pub kind_is : o.kind ≡ kind xs
+  pub kind_is : kind_of o.call ≡ kind xs
   pub length_is : o.length ≡ step xs
   pub within : o.length ≤ length xs
   pub onward : 0 < length xs → 0 < o.length
@@ -51,12 +57,13 @@ in_kinds first last k = leb first k && leb k last
 abbrev pub as_number : Bool → ℕ
 as_number b = cond b 1 0
 
--- A tally with one more record. The bounds follow from the numbers.
-pub record RecordAdded (first last : ℕ) (t : Tally) (o : Outcome) (r : Tally) : Type 0 where
-  pub replayed_is : r.replayed ≡ t.replayed + as_number (in_kinds first last o.kind)
-  pub differ_is : r.differ ≡ t.differ + as_number (in_kinds first last o.kind && not o.agrees)
-  pub replayed_most : r.replayed ≤ t.replayed + 1
-  pub differ_most : r.differ ≤ t.differ + 1
+-- The kinds that are counted: that of one call, or all, a byte each, where none is named.
+abbrev pub first_kind : Option Call → ℕ
+first_kind only = kind_of only
+
+abbrev pub last_kind : Option Call → ℕ
+last_kind None = 255
+last_kind (Some call) = tag_of call
 
 -- Of the records of a list whose kind is from first to last, there are some number, and in some number of these the engine answers otherwise.
 pub data RecordsTallied (first last : ℕ) : ℕ → ℕ → List ℕ → Type 0 where

@@ -52,10 +52,6 @@ pub record FittingCompared (r : Bool) (Promised : ℕ → List ℕ → Type 0) (
 abbrev pub TablePromised : List ℕ → List ℕ → ℕ → List ℕ → Type 0
 TablePromised xs table number after = TableNumbered hall (record_puzzle xs) (marks_in xs) number table after
 
--- What a test of the call says, where the table holds these bytes to begin with.
-abbrev pub TableFrom : List ℕ → Bool → List ℕ → Type 0
-TableFrom table r xs = Compared r (TablePromised xs table) xs
-
 -- What a test of a record of candidates says.
 abbrev pub TableFound : Bool → List ℕ → Type 0
 TableFound r xs = FittingCompared r (TablePromised xs (field xs 4)) xs
@@ -64,10 +60,6 @@ TableFound r xs = FittingCompared r (TablePromised xs (field xs 4)) xs
 abbrev pub CellsPromised : List ℕ → List ℕ → ℕ → List ℕ → Type 0
 CellsPromised xs cells number after =
     (number ≡ solve_number (solve_answer hall (record_puzzle xs) (marks_in xs) (length cells))) × SolveWritten hall (record_puzzle xs) (marks_in xs) cells after
-
--- What a test of the call says, where the cells hold these bytes to begin with.
-abbrev pub CellsFrom : List ℕ → Bool → List ℕ → Type 0
-CellsFrom cells r xs = Compared r (CellsPromised xs cells) xs
 
 -- What a test of a record of Solve says.
 abbrev pub CellsFound : Bool → List ℕ → Type 0

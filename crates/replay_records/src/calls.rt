@@ -1,44 +1,41 @@
 // Target sums, marking and the check of a line, run on the fields of a record.
 ghost use Rattle.std.specs.Prelude.{◌≡◌};
 ghost use Rattle.record_fields.specs.Recorded.{Says};
-ghost use Rattle.replay_records.specs.Agreement.{SumsFrom, SumsAgree, SheetAgrees, step_number, LineAgrees};
+ghost use Rattle.replay_records.specs.Agreement.{SumsAgree, SheetAgrees, step_number, LineAgrees};
 
+use crate::Buffer;
+use grid_lines::Line;
 use puzzle::size_fits;
-use record_fields::{ROOM, buffer, byte, field, is_number, size, sums_recorded};
+use record_fields::{byte, field, is_number, size, sums_recorded};
 use sheet_marking::{LineFault, line_fault};
-
-// Whether the target sums, with the two slices to begin with, come out as recorded.
-fn sums_agree(list: &[u8], rows: &mut [u8], columns: &mut [u8]) -> bool
-    ensures { Says result (SumsFrom rows.old columns.old list.now) }
-{
-    let number = doppelblock::doppelblock_target_sums(size(list), field(list, 1), rows, columns);
-    sums_recorded(list, number, rows, columns)
-}
+use units::Unit;
 
 // Fields: size, cells, rows before, columns before, answer, rows after, columns after.
 pub(crate) fn target_sums_agree(list: &[u8]) -> bool
     ensures { Says result (SumsAgree list.now) }
 {
-    let rows = field(list, 2);
-    let columns = field(list, 3);
-    let n = rows.len();
-    let m = columns.len();
-    if ROOM < n {
+    let (Ok(mut rows), Ok(mut columns)) = (
+        Buffer::try_from(field(list, 2)),
+        Buffer::try_from(field(list, 3)),
+    ) else {
         return false;
-    }
-    if ROOM < m {
-        return false;
-    }
-    let mut row_room = buffer(rows);
-    let mut column_room = buffer(columns);
-    sums_agree(list, &mut row_room[..n], &mut column_room[..m])
+    };
+    let number = host::target_sums(
+        Unit::hall(),
+        size(list),
+        field(list, 1),
+        &mut rows,
+        &mut columns,
+    );
+    sums_recorded(list, number, &rows, &columns)
 }
 
 // Fields: size, rows, columns, cells, answer.
 pub(crate) fn mark_sheet_agrees(list: &[u8]) -> bool
     ensures { Says result (SheetAgrees list.now) }
 {
-    let number = doppelblock::doppelblock_mark_sheet(
+    let number = host::mark_sheet(
+        Unit::hall(),
         size(list),
         field(list, 1),
         field(list, 2),
@@ -48,14 +45,14 @@ pub(crate) fn mark_sheet_agrees(list: &[u8]) -> bool
 }
 
 // The number of the step that a line fails first, 0 for none.
-fn step_number(fault: LineFault) -> u8
+fn step_number(fault: Option<LineFault>) -> u8
     ensures { result ≡ step_number fault }
 {
     match fault {
-        LineFault::None => 0,
-        LineFault::Digits => 1,
-        LineFault::Blacks => 2,
-        LineFault::Sum => 3,
+        None => 0,
+        Some(LineFault::Digits) => 1,
+        Some(LineFault::Blacks) => 2,
+        Some(LineFault::Sum) => 3,
     }
 }
 
@@ -64,14 +61,16 @@ pub(crate) fn line_check_agrees(list: &[u8]) -> bool
     ensures { Says result (LineAgrees list.now) }
 {
     let n = size(list);
-    if !size_fits(n) {
-        return false;
-    }
     let cells = field(list, 2);
-    if cells.len() != n {
+    if !size_fits(n) || cells.len() != n {
         return false;
     }
-    let target = byte(field(list, 1), 0);
-    let fault = line_fault(cells, 0, 1, n, target as u8);
+    let line = Line {
+        cells,
+        start: 0,
+        stride: 1,
+        len: n,
+    };
+    let fault = line_fault(line, byte(field(list, 1), 0));
     is_number(list, 3, step_number(fault))
 }

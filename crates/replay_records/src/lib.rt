@@ -5,126 +5,112 @@
 mod calls;
 mod solver_calls;
 
-ghost use Rattle.std.specs.Prelude.{◌+◌, ◌<◌, ◌^◌};
-ghost use Rattle.replay_records.specs.Replay.{Finds, Replayed, RecordAdded, RecordsTallied, FirstDifference};
+ghost use Rattle.std.specs.Prelude.{◌≡◌, ◌+◌, ◌<◌, ◌^◌, not, length, MatchOption};
+ghost use Rattle.record_fields.specs.Calls.{tag_of};
+ghost use Rattle.replay_records.specs.Replay.{FindsAs, Replayed, kind_of, in_kinds, as_number, first_kind, last_kind, RecordsTallied, FirstDifference};
 
+use arrayvec::ArrayVec;
 use calls::{line_check_agrees, mark_sheet_agrees, target_sums_agree};
-use record_fields::{byte, field_count, field_start, is_readable};
+use record_fields::{Call, field_start, readable_call};
 use solver_calls::{candidates_agree, count_agrees, solve_agrees};
 
-// What replaying the first record of a list found: its tag, how many bytes it takes, and whether the engine answers as recorded. Where no
-// record can be read, the kind is 0 and the length that of the whole list.
+// What a call may write to. A record whose slices do not fit is a difference.
+type Buffer = ArrayVec<u8, 256>;
+
+// What replaying the first record of a list found: its call, how many bytes it takes, and whether the engine answers as recorded. Where no record
+// can be read, there is no call, and the length is that of the whole list.
 #[derive(Clone, Copy)]
 pub struct Outcome {
-    pub kind: usize,
+    pub call: Option<Call>,
     pub length: usize,
     pub agrees: bool,
 }
 
-#[derive(Clone, Copy)]
+// How many records were replayed, and in how many of them the engine answers otherwise.
+#[derive(Clone, Copy, Default)]
 pub struct Tally {
     pub replayed: usize,
     pub differ: usize,
 }
 
-// Whether the engine answers as the record says.
-fn agrees(list: &[u8]) -> bool
-    ensures { Finds result list.now }
+impl Tally {
+    // One more record.
+    fn add(&mut self, agrees: bool)
+        requires { (self.old.replayed + 1 < 2 ^ 64) × (self.old.differ + 1 < 2 ^ 64) }
+        ensures { (self.new.replayed ≡ self.old.replayed + 1) × (self.new.differ ≡ self.old.differ + as_number (not agrees)) }
+    {
+        self.replayed += 1;
+        self.differ += usize::from(!agrees);
+    }
+}
+
+// Whether the engine answers as the record of a call says.
+#[tactic(auto, unfolding(crate::specs::Replay::FindsAs))]
+fn agrees(call: Call, list: &[u8]) -> bool
+    ensures { FindsAs (tag_of call) result list.now }
 {
-    let tag = byte(list, 0);
-    if tag == 1 {
-        return target_sums_agree(list);
+    match call {
+        Call::TargetSums => target_sums_agree(list),
+        Call::MarkSheet => mark_sheet_agrees(list),
+        Call::Candidates => candidates_agree(list),
+        Call::Count => count_agrees(list),
+        Call::Solve => solve_agrees(list),
+        Call::LineCheck => line_check_agrees(list),
     }
-    if tag == 2 {
-        return mark_sheet_agrees(list);
-    }
-    if tag == 3 {
-        return candidates_agree(list);
-    }
-    if tag == 4 {
-        return count_agrees(list);
-    }
-    if tag == 5 {
-        return solve_agrees(list);
-    }
-    if tag == 6 {
-        return line_check_agrees(list);
-    }
-    false
 }
 
 // Replays the first record of a list.
 pub fn replay(list: &[u8]) -> Outcome
     ensures { Replayed list.now result }
 {
-    if !is_readable(list) {
-        return Outcome {
-            kind: 0,
+    match readable_call(list) {
+        Some(call) => Outcome {
+            call: Some(call),
+            length: field_start(list, call.field_count()),
+            agrees: agrees(call, list),
+        },
+        None => Outcome {
+            call: None,
             length: list.len(),
             agrees: false,
-        };
-    }
-    let kind = byte(list, 0);
-    let length = field_start(list, field_count(kind));
-    let agrees = agrees(list);
-    Outcome {
-        kind,
-        length,
-        agrees,
+        },
     }
 }
 
-// The tally with one more record, if its kind is counted.
-fn add(t: Tally, o: Outcome, first: usize, last: usize) -> Tally
-    requires { (t.replayed + 1 < 2 ^ 64) × (t.differ + 1 < 2 ^ 64) }
-    ensures { RecordAdded first last t o result }
+// Whether the records of a call are counted: of one call those, and all where none is named.
+fn is_counted(only: Option<Call>, call: Option<Call>) -> bool
+    ensures { result ≡ in_kinds (first_kind only) (last_kind only) (kind_of call) }
 {
-    if o.kind < first {
-        return t;
-    }
-    if last < o.kind {
-        return t;
-    }
-    if o.agrees {
-        return Tally {
-            replayed: t.replayed + 1,
-            differ: t.differ,
-        };
-    }
-    Tally {
-        replayed: t.replayed + 1,
-        differ: t.differ + 1,
-    }
+    only.is_none() || call == only
 }
 
-// How many records of a list have a kind from first to last, and in how many of these the engine answers otherwise.
-pub fn replay_list(list: &[u8], first: usize, last: usize) -> Tally
-    ensures { RecordsTallied first last result.replayed result.differ list.now }
+// How many records of a list are of one call, or how many there are where none is named, and in how many of these the engine answers otherwise.
+pub fn replay_list(list: &[u8], only: Option<Call>) -> Tally
+    ensures { RecordsTallied (first_kind only) (last_kind only) result.replayed result.differ list.now }
 {
-    let mut t = Tally {
-        replayed: 0,
-        differ: 0,
-    };
-    let mut at = 0;
-    while at < list.len() {
-        let o = replay(&list[at..]);
-        t = add(t, o, first, last);
-        at += o.length;
-    }
-    t
-}
-
-// Where the first record of a list begins in which the engine answers otherwise; the end of the list where there is none.
-pub fn first_difference(list: &[u8]) -> usize
-    ensures { FirstDifference result list.now }
-{
-    let mut at = 0;
-    while at < list.len() {
-        let o = replay(&list[at..]);
-        if !o.agrees {
-            return at;
+    let mut tally = Tally::default();
+    let mut rest = list;
+    while !rest.is_empty() {
+        let outcome = replay(rest);
+        if is_counted(only, outcome.call) {
+            tally.add(outcome.agrees);
         }
-        at += o.length;
+        rest = &rest[outcome.length..];
     }
-    at
+    tally
+}
+
+// Where the first record of a list begins in which the engine answers otherwise.
+pub fn first_difference(list: &[u8]) -> Option<usize>
+    ensures { MatchOption result (FirstDifference (length list.now) list.now) (λ at. (at < length list.now) × FirstDifference at list.now) }
+{
+    let mut at = 0;
+    while at < list.len() {
+        let outcome = replay(&list[at..]);
+        if !outcome.agrees {
+            return Some(at);
+        }
+        at += outcome.length;
+    }
+    None
 }

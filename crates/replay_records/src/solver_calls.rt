@@ -1,69 +1,68 @@
 // The calls of the solver, each run on the fields of a record.
 ghost use Rattle.record_fields.specs.Recorded.{Says};
-ghost use Rattle.replay_records.specs.SolverAgreement.{CountFrom, CountAgrees, TableFrom, TableFound, CellsFrom, CellsFound};
+ghost use Rattle.record_fields.specs.Fields.{field as field_of};
+ghost use Rattle.std.specs.Fn.{FnOnceReturnsAtMut};
+ghost use Rattle.replay_records.specs.SolverAgreement.{CountAgrees, FittingCompared, TableFound, CellsFound};
 
-use record_fields::{ROOM, buffer, buffer_recorded, count_recorded, field, number, size};
+use crate::Buffer;
+use record_fields::{buffer_recorded, count_recorded, field, number, size};
+use units::Unit;
 
-// Whether the candidates, with the table to begin with, come out as recorded.
-fn table_agrees(list: &[u8], table: &mut [u8]) -> bool
-    ensures { TableFrom table.old result list.now }
+// Whether a call that writes to a buffer, with the recorded bytes to begin with, comes out as recorded.
+fn buffer_agrees<F: FnOnce(&mut [u8]) -> u8>(list: &[u8], call: F) -> bool
+    requires { F.IsAlwaysCallable call }
+    ensures { FittingCompared result (FnOnceReturnsAtMut F.FnOnce call (field_of list.now 4)) list.now }
 {
-    let number = doppelblock::doppelblock_candidates(
-        size(list),
-        field(list, 1),
-        field(list, 2),
-        field(list, 3),
-        table,
-    );
-    buffer_recorded(list, number, table)
+    match Buffer::try_from(field(list, 4)) {
+        Ok(mut buffer) => {
+            let number = call(&mut buffer);
+            buffer_recorded(list, number, &buffer)
+        }
+        Err(_) => false,
+    }
 }
 
 // Fields: size, rows, columns, marks, table before, answer, table after.
 pub(crate) fn candidates_agree(list: &[u8]) -> bool
     ensures { TableFound result list.now }
 {
-    let table = field(list, 4);
-    let n = table.len();
-    if ROOM < n {
-        return false;
-    }
-    let mut room = buffer(table);
-    table_agrees(list, &mut room[..n])
-}
-
-// Whether Solve, with the cells to begin with, comes out as recorded.
-fn cells_agree(list: &[u8], cells: &mut [u8]) -> bool
-    ensures { CellsFrom cells.old result list.now }
-{
-    let number = doppelblock::doppelblock_solve(
-        size(list),
-        field(list, 1),
-        field(list, 2),
-        field(list, 3),
-        cells,
-    );
-    buffer_recorded(list, number, cells)
+    buffer_agrees(list, |table| {
+        host::candidates(
+            Unit::hall(),
+            size(list),
+            field(list, 1),
+            field(list, 2),
+            field(list, 3),
+            table,
+        )
+    })
 }
 
 // Fields: size, rows, columns, marks, cells before, answer, cells after.
 pub(crate) fn solve_agrees(list: &[u8]) -> bool
     ensures { CellsFound result list.now }
 {
-    let cells = field(list, 4);
-    let n = cells.len();
-    if ROOM < n {
-        return false;
-    }
-    let mut room = buffer(cells);
-    cells_agree(list, &mut room[..n])
+    buffer_agrees(list, |cells| {
+        host::solve(
+            Unit::hall(),
+            size(list),
+            field(list, 1),
+            field(list, 2),
+            field(list, 3),
+            cells,
+        )
+    })
 }
 
-// Whether the count under a cap, with a count to begin with, comes out as recorded.
-fn capped_agrees(list: &[u8], cap: u64, old: u64) -> bool
-    ensures { Says result (CountFrom cap old list.now) }
+// Fields: size, rows, columns, marks, cap, count before, answer, count after.
+pub(crate) fn count_agrees(list: &[u8]) -> bool
+    ensures { Says result (CountAgrees list.now) }
 {
-    let mut count = old;
-    let answer = doppelblock::doppelblock_count(
+    let (Some(cap), Some(mut count)) = (number(field(list, 4)), number(field(list, 5))) else {
+        return false;
+    };
+    let answer = host::count(
+        Unit::hall(),
         size(list),
         field(list, 1),
         field(list, 2),
@@ -72,19 +71,4 @@ fn capped_agrees(list: &[u8], cap: u64, old: u64) -> bool
         &mut count,
     );
     count_recorded(list, answer, count)
-}
-
-// Fields: size, rows, columns, marks, cap, count before, answer, count after.
-pub(crate) fn count_agrees(list: &[u8]) -> bool
-    ensures { Says result (CountAgrees list.now) }
-{
-    let cap = field(list, 4);
-    let old = field(list, 5);
-    if cap.len() != 8 {
-        return false;
-    }
-    if old.len() != 8 {
-        return false;
-    }
-    capped_agrees(list, number(cap), number(old))
 }

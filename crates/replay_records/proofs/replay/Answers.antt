@@ -1,10 +1,7 @@
 -- `replay_records::replay` meets its contract. Assumes nothing.
-use borrow.Author.Rules.{rules}
-use Rattle.replay_records.proofs.ReplayLaws.{replayed_none, replayed_one}
+use Rattle.replay_records.proofs.ReplayLaws.{replayed_one}
 use Rattle.replay_records.proofs.replay.Goals as goal
 
-pub returns-then-not-is_readable : goal.returns-then-not-is_readable
-returns-then-not-is_readable c = search (rules, replayed_none)
-
-pub returns : goal.returns
-returns c = search (rules, replayed_one)
+pub returns-in-Some : goal.returns-in-Some
+returns-in-Some c =
+    let call = c.in-Some.ensures in replayed_one _ _ _ _ _ call.0 call.1 c.field_count.ensures.is c.field_start.ensures.0 c.agrees.ensures

@@ -1,23 +1,19 @@
--- `replay_records::replay_list` meets its contract: what is counted from a place on completes the tally. Assumes nothing.
-use native.Mathlib.Omega.{arith}
-use borrow.Author.Rules.{rules}
-use Rattle.replay_records.proofs.ReplayLaws.{tallied_begin, tallied_end, replayed_onward, tallied_more}
+-- `replay_records::replay_list` meets its contract: what is counted from here on completes the tally. Assumes nothing.
+use Rattle.std.proofs.Common.{arith, eqb-true, sym}
+use Rattle.replay_records.proofs.ReplayLaws.{some_left, tallied_end, tallied_more}
 use Rattle.replay_records.proofs.replay_list.Goals as goal
+use Rattle.replay_records.proofs.replay_list.Goals.{then-is_counted, else-is_counted}
 
-pub loop-at-init : goal.loop-at-init
-loop-at-init c = (search rules, search rules, search rules, tallied_begin _ _ _)
-
-pub loop-at-smaller : goal.loop-at-smaller
-loop-at-smaller c =
-    let o = c.replay-o in
-    omega (arith, replayed_onward c.args.list.now c.loop-at.at o.result c.loop-at-test.true o.ensures)
-
-pub loop-at-preserved : goal.loop-at-preserved
-loop-at-preserved c =
-    let o = c.replay-o in
-    let a = c.add-t.ensures in
-    let onward = replayed_onward c.args.list.now c.loop-at.at o.result c.loop-at-test.true o.ensures in
-    (onward.1, omega arith, omega arith, tallied_more _ _ _ _ _ _ _ c.loop-at-test.true o.ensures a c.loop-at.invariant.3)
+pub loop-rest-preserved : goal.loop-rest-preserved
+loop-rest-preserved c =
+    let o = c.replay-outcome in
+    let more =
+    tallied_more _ _ _ _ o.result c.loop-rest.tally c.if-is_counted.tally (some_left _ c.loop-rest-test.ensures) o.ensures c.loop-rest.invariant
+    c.is_counted.result c.is_counted.ensures in
+    elim c.if-is_counted.branch [
+      | then-is_counted w ↦ more (rw (w.tally-is, w.if-is_counted.true) w.add.ensures.0) (rw (w.tally-is, w.if-is_counted.true) w.add.ensures.1)
+      | else-is_counted w ↦ more (rw (w.tally-is, w.if-is_counted.false) (omega arith)) (rw (w.tally-is, w.if-is_counted.false) (omega arith))
+    ]
 
 pub returns : goal.returns
-returns c = tallied_end _ _ _ _ _ c.loop-at-test.false c.loop-at.invariant.3
+returns c = tallied_end _ _ _ _ _ (eqb-true _ _ (sym c.loop-rest-test.ensures)) c.loop-rest.invariant

@@ -1,11 +1,11 @@
--- What holds in the loops of `replay_records::replay_list`, and why they end.
-use Prim.Native.Nat.{◌-◌, ◌≤◌}
-use lib.ListN.{length}
+-- What holds in the loop of `replay_records::replay_list`, and why it ends.
+use Rattle.std.proofs.Common.{length}
+use Rattle.replay_records.specs.Replay.{first_kind, last_kind}
 use Rattle.replay_records.proofs.ReplayLaws.{Completes}
 use Rattle.replay_records.proofs.replay_list.Given as goal
 
-abbrev pub invariant-loop-at : goal.invariant-loop-at
-invariant-loop-at l = (l.at ≤ length l.list) × (l.t.replayed ≤ l.at) × (l.t.differ ≤ l.at) × Completes l.first l.last l.list l.t l.at
+abbrev pub invariant-loop-rest : goal.invariant-loop-rest
+invariant-loop-rest l = Completes (first_kind l.only) (last_kind l.only) l.list l.rest l.tally
 
-abbrev pub decreases-loop-at : goal.decreases-loop-at
-decreases-loop-at l = length l.list - l.at
+abbrev pub decreases-loop-rest : goal.decreases-loop-rest
+decreases-loop-rest l = length l.rest
