@@ -1,5 +1,5 @@
 -- Laws of records of checked lines. Assumes nothing.
-use Rattle.std.proofs.Common.{ℕ, ◌≡◌, sym, ap, ◌∙◌, Bool, false, not, List, [], ◌∷◌, length, get_or}
+use Rattle.std.proofs.Common.{ℕ, ◌≡◌, sym, ap, ◌∙◌, Bool, false, not, List, [], ◌∷◌, length, get_or, Option}
 use borrow.Author.Tests.{not-false}
 use Rattle.rules.specs.CheckParts.{size_fits}
 use Rattle.rules.specs.Strided.{strided}
@@ -13,7 +13,7 @@ use Rattle.replay_records.specs.Agreement.{step_number, LineAgrees}
 
 -- The check of a line was called on the record's size, target and cells.
 pub line_called :
-    (xs : List ℕ) (n : ℕ) (fits : Bool) (cells first : List ℕ) (target : ℕ) (fault : LineFault) (number : ℕ) (b : Bool) → n ≡ record_size xs
+    (xs : List ℕ) (n : ℕ) (fits : Bool) (cells first : List ℕ) (target : ℕ) (fault : Option LineFault) (number : ℕ) (b : Bool) → n ≡ record_size xs
     → fits ≡ size_fits n → not fits ≡ false → cells ≡ field xs 2 → length cells ≡ n → first ≡ field xs 1 → target ≡ get_or first 0 0
     → fault ≡ line_fault n target (strided 0 1 cells n) → number ≡ step_number fault → Says b (field xs 3 ≡ number ∷ []) → Says b (LineAgrees xs)
 line_called xs n fits cells first target fault number b is-n is-fits h is-cells long is-first is-target is-fault is_number s =

@@ -1,12 +1,12 @@
 -- What it means that the engine answers as a record says: the record has what the definitions give. Assumes nothing.
-use Rattle.std.specs.Prelude.{ℕ, ◌≤◌, ◌≡◌, true, List, [], ◌∷◌, length, get_or}
+use Rattle.std.specs.Prelude.{ℕ, ◌≤◌, ◌≡◌, true, List, [], ◌∷◌, length, get_or, Option, None, Some}
 use Rattle.units.specs.Limits.{hall}
 use Rattle.rules.specs.Sums.{target_sums}
 use Rattle.rules.specs.CheckParts.{size_fits}
 use Rattle.rules.specs.Grid.{puzzle}
 use Rattle.sheet_marking.specs.Answer.{mark_sheet}
 use Rattle.sheet_marking.specs.declared.LineFault.{LineFault}
-use Rattle.sheet_marking.specs.declared.LineFault.TheVariants.{Digits, Blacks, Sum, None}
+use Rattle.sheet_marking.specs.declared.LineFault.TheVariants.{Digits, Blacks, Sum}
 use Rattle.sheet_marking.specs.Fault.{line_fault}
 use Rattle.host.specs.Number.{sheet_number}
 use Rattle.record_fields.specs.Fields.{field, record_size}
@@ -31,11 +31,11 @@ abbrev pub SheetAgrees : List ℕ → Type 0
 SheetAgrees xs = field xs 4 ≡ sheet_number (mark_sheet hall (puzzle (record_size xs) (field xs 1) (field xs 2)) (field xs 3)) ∷ []
 
 -- The number of the step that a line fails first, 0 for none.
-abbrev pub step_number : LineFault → ℕ
+abbrev pub step_number : Option LineFault → ℕ
 step_number None = 0
-step_number Digits = 1
-step_number Blacks = 2
-step_number Sum = 3
+step_number (Some Digits) = 1
+step_number (Some Blacks) = 2
+step_number (Some Sum) = 3
 
 -- A record of a checked line is right: it has a size, as many cells, and the step that they fail first with its target.
 pub record LineAgrees (xs : List ℕ) : Type 0 where

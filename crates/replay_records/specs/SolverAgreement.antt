@@ -1,10 +1,10 @@
 -- What it means that the solver answers as a record says. A count has to be what the definitions give. Where a promise leaves open what a call writes,
 -- the record has to have what the call wrote, and that keeps the promise. Assumes nothing.
-use Rattle.std.specs.Prelude.{ℕ, ◌≤◌, ◌<◌, ◌≡◌, Bool, false, List, length}
+use Rattle.std.specs.Prelude.{ℕ, ◌≤◌, ◌<◌, ◌≡◌, Bool, false, List, length, Result}
+use Rattle.refusal.specs.declared.Refusal.{Refusal}
 use Rattle.units.specs.Limits.{hall}
 use Rattle.rules.specs.Grid.{Puzzle, puzzle}
 use Rattle.rules.specs.Mark.{marks_of}
-use Rattle.engine.specs.declared.Counted.{Counted}
 use Rattle.engine.specs.Answer.{count_answer, solve_answer, SolveWritten}
 use Rattle.host.specs.Number.{count_out, solve_number, TableNumbered}
 use Rattle.record_fields.specs.Fields.{field, record_size, number_from}
@@ -21,7 +21,7 @@ marks_in xs = marks_of (field xs 3)
 -- ---- Count
 
 -- The record has what an answer of Count gives, where the place of the count holds a number to begin with.
-abbrev pub CountAs : Counted → ℕ → List ℕ → Type 0
+abbrev pub CountAs : Result ℕ Refusal → ℕ → List ℕ → Type 0
 CountAs answer old xs = CountRecorded (count_out answer old).0 (count_out answer old).1 xs
 
 -- The record has the count of its puzzle and marks under a cap.
