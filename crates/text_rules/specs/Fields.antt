@@ -1,6 +1,7 @@
 -- A line of input, given by its bytes without the line end: its fields, its numbers, its puzzle, and the checks that it has to pass. Assumes nothing.
 use Rattle.std.specs.Prelude.{ℕ, ◌+◌, ◌-◌, ◌*◌, Bool, true, false, not, ◌&&◌, cond, List, [], ◌∷◌, map, eqb, leb, length, get_or, take, drop}
 use Rattle.tally.specs.Tally.{all}
+use Rattle.refusal.specs.declared.Refusal.TheVariants.{TargetLengths, TextLine}
 use Rattle.rules.specs.Grid.{Puzzle}
 use Rattle.rules.specs.Check.{Check, check, check_size}
 use Rattle.rules.specs.CheckParts.{check_targets}
@@ -70,10 +71,10 @@ puzzle_of l = puzzle_from (numbers l)
 unfoldable pub number_checks : List ℕ → List Check
 number_checks ns =
     check_size (size_of ns)
-    ∷ check 2 (eqb (length (targets_of ns)) (2 * size_of ns))
+    ∷ check TargetLengths (eqb (length (targets_of ns)) (2 * size_of ns))
     ∷ check_targets (size_of ns) (puzzle_from ns).rows (puzzle_from ns).columns
     ∷ []
 
 -- 11, then 1, 2, 3.
 unfoldable pub line_checks : List ℕ → List Check
-line_checks l = check 11 (well_formed l) ∷ number_checks (numbers l)
+line_checks l = check TextLine (well_formed l) ∷ number_checks (numbers l)

@@ -7,7 +7,7 @@ use native.Mathlib.Decide.{dec_lt}
 use lib.ListN.{length, take, length-take}
 use lib.Seq.{take_all}
 use borrow.Author.Tests.{lt-leb}
-use Rattle.rules.specs.Check.{refusal}
+use Rattle.rules.specs.Check.{checked, refusal}
 use Rattle.rules.specs.Number.{number, verdict_of}
 use Rattle.text_rules.specs.Fields.{well_formed, puzzle_of, line_checks}
 use Rattle.text_rules.specs.Text.{refused_word, number_text, answer_text}
@@ -17,7 +17,7 @@ use Rattle.text_rules.specs.Stream.{line_end, Written, nothing, byte, ended}
 -- ---- a line of which 81 bytes are kept
 
 refused_11 : (line : List ℕ) → 80 < length line → refusal (line_checks line) ≡ 11
-unfolding refusal line_checks well_formed
+unfolding refusal checked line_checks well_formed
 refused_11 line h = rw (lt-leb (length line) 80 h)
 
 same_text : (line : List ℕ) {text : List ℕ} → 80 < length line → Answered line text → text ≡ refused_word ++ number_text 11
