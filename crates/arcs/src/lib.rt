@@ -181,14 +181,23 @@ fn sweep(st: &mut [u16], words: &[u32], n: usize, lane: Lane, p: usize, v: usize
     }
 }
 
-// The value v is struck at place p of a line: its dead arrangements leave. Without support, as a value of the other half is, none of them has it there.
-fn update_lane(st: &mut [u16], words: &[u32], n: usize, lane: Lane, p: usize, v: usize)
+// The value v is struck at place p of a line: its dead arrangements leave.
+fn update_line(st: &mut [u16], words: &[u32], n: usize, lane: Lane, p: usize, v: usize)
+    requires { SweepAsk n lane.number lane p v words.now st.old }
+    ensures { LineDone n lane.number p v st.old st.new }
+{
+    let len = sweep(st, words, n, lane, p, v);
+    st[Slab::LENGTHS + lane.number] = len as u16;
+}
+
+// The same, if any of them has it there: a value of the other half has no support in the line. Inline, since a call to find that out costs more than it saves.
+#[inline(always)]
+fn update_supported(st: &mut [u16], words: &[u32], n: usize, lane: Lane, p: usize, v: usize)
     requires { LineAsk n lane.number lane p v words.now st.old }
     ensures { LineDone n lane.number p v st.old st.new }
 {
     if st[Slab::SUPPORT + (lane.number * 9 + p) * 16 + v] != 0 {
-        let len = sweep(st, words, n, lane, p, v);
-        st[Slab::LENGTHS + lane.number] = len as u16;
+        update_line(st, words, n, lane, p, v);
     }
 }
 
@@ -197,6 +206,6 @@ pub fn update_arc(st: &mut [u16], words: &[u32], n: usize, x: Candidate)
     requires { ArcAsk n words.now st.old x.row x.column x.value }
     ensures { ArcDone n st.old st.new x.row x.column x.value }
 {
-    update_lane(st, words, n, Lane::row(x.row), x.column, x.value);
-    update_lane(st, words, n, Lane::column(x.column), x.row, x.value);
+    update_supported(st, words, n, Lane::row(x.row), x.column, x.value);
+    update_supported(st, words, n, Lane::column(x.column), x.row, x.value);
 }

@@ -4,10 +4,13 @@ use mathlib.Core.Path.{◌≡◌, refl, sym, ap, ap₂, ◌∙◌}
 use mathlib.Core.Bool.{Bool, true, false, cond}
 use mathlib.Core.List.{List, [], ◌∷◌, ◌++◌, map, append_assoc, append-nil, map-append}
 use native.Mathlib.Omega.{arith}
+use native.Mathlib.Decide.{dec_lt}
 use lib.Dec.{ltb}
 use lib.ListN.{length, get_or, set, length-set, length-append, length-map}
 use borrow.Author.Tests.{lt-ltb, le-ltb}
 use lib.Seq.{get_or-set_same, get_or-set_other}
+use Rattle.std.specs.Bool.{IsTrue}
+use Rattle.std.specs.declared.ops.Range.{Range}
 use Rattle.tally.specs.Tally.{span, keep, join}
 use Rattle.tally.specs.Tally as tally
 use Rattle.tally.proofs.TallyLaws.{sum_append, span_length}
@@ -21,6 +24,7 @@ use Rattle.arcs.specs.Arc.{lives, live, support}
 use Rattle.table.specs.Lines.{black_at}
 use Rattle.queue_state.specs.Layout.{length_place, per_line, live_place, support_place}
 use Rattle.listing.specs.Numbers.{scan, starts_from, of_size, side_from, side_of}
+use Rattle.listing.specs.Sides.{StartsAre}
 use Rattle.listing.specs.Listing.{list_of, Raised, WordAsk, Added, AddAsk, Adding, StartsAsk}
 
 -- ---- lists
@@ -39,18 +43,34 @@ parts_le k n p v (id ∷ ids) = omega (arith, part_lt k (word_of n id) p v, part
 
 -- ---- scans
 
-module _ (f : ℕ → List ℕ) (ok : ℕ → Bool) (a m : ℕ) where
-  scan_yes : a < m → ok a ≡ true → scan f ok a m ≡ f a ++ scan f ok (a + 1) m
+module _ (f : ℕ → List ℕ) (ok : ℕ → Bool) (m : ℕ) where
+  scan_yes : (a : ℕ) → a < m → ok a ≡ true → scan f ok a m ≡ f a ++ scan f ok (a + 1) m
   unfolding scan span keep join
-  scan_yes h e = let u : m - a ≡ suc (m - (a + 1)) = omega arith in let s : a + 1 ≡ suc a = omega arith in rw (u, s, e)
+  scan_yes a h e = let u : m - a ≡ suc (m - (a + 1)) = omega arith in let s : a + 1 ≡ suc a = omega arith in rw (u, s, e)
 
-  scan_no : a < m → ok a ≡ false → scan f ok a m ≡ scan f ok (a + 1) m
+  scan_no : (a : ℕ) → a < m → ok a ≡ false → scan f ok a m ≡ scan f ok (a + 1) m
   unfolding scan span keep join
-  scan_no h e = let u : m - a ≡ suc (m - (a + 1)) = omega arith in let s : a + 1 ≡ suc a = omega arith in rw (u, s, e)
+  scan_no a h e = let u : m - a ≡ suc (m - (a + 1)) = omega arith in let s : a + 1 ≡ suc a = omega arith in rw (u, s, e)
 
-  scan_end : m ≤ a → scan f ok a m ≡ []
+  scan_end : (a : ℕ) → m ≤ a → scan f ok a m ≡ []
   unfolding scan span keep join
-  scan_end h = let u : m - a ≡ 0 = omega arith in rw u
+  scan_end a h = let u : m - a ≡ 0 = omega arith in rw u
+
+  scan_after : (k : ℕ) → ((i : ℕ) → i < k → i < m → ok i ≡ false) → scan f ok 0 m ≡ scan f ok k m
+  scan_after zero e = refl
+  scan_after (suc k) e = scan_after k (λ i j l. e i (omega arith) l) ∙ next (dec_lt k m)
+    where
+      next : Dec (k < m) → scan f ok k m ≡ scan f ok (suc k) m
+      next (yes d) = let u : suc k ≡ k + 1 = omega arith in rw u (scan_no k d (e k (omega arith) d))
+      next (no d) = scan_end k (omega arith) ∙ sym (scan_end (suc k) (omega arith))
+
+  scan_none : (k a : ℕ) → m ≤ a + k → ((i : ℕ) → a ≤ i → i < m → ok i ≡ false) → scan f ok a m ≡ []
+  scan_none zero a h e = scan_end a (omega arith)
+  scan_none (suc k) a h e =
+      elim (dec_lt a m) [
+        | yes d ↦ scan_no a d (e a (omega arith) d) ∙ scan_none k (a + 1) (omega arith) (λ i j l. e i (omega arith) l)
+        | no d ↦ scan_end a (omega arith)
+      ]
 
 -- ---- one after the other
 
@@ -203,43 +223,56 @@ module _ {n ℓ k : ℕ} {ws l : List ℕ} (id : ℕ) (a : AddAsk n ℓ k ws l (
 
 module _ (f : ℕ → List ℕ) (ok : ℕ → Bool) (a m : ℕ) {n ℓ k : ℕ} {ws l₀ l whole : List ℕ} (d : Adding n ℓ k ws l₀ l (scan f ok a m) whole) where
   pub scan_ask : a < m → ok a ≡ true → AddAsk n ℓ k ws l (f a)
-  scan_ask h e = addable_first (f a) (scan f ok (a + 1) m) (rw (scan_yes f ok a m h e) at d.ask)
+  scan_ask h e = addable_first (f a) (scan f ok (a + 1) m) (rw (scan_yes f ok m a h e) at d.ask)
 
   pub scan_next : a < m → ok a ≡ true → {l' : List ℕ} → Added n ℓ l l' (f a) → Adding n ℓ k ws l₀ l' (scan f ok (a + 1) m) whole
-  scan_next h e r = adding_next (f a) (scan f ok (a + 1) m) (rw (scan_yes f ok a m h e) at d) r
+  scan_next h e r = adding_next (f a) (scan f ok (a + 1) m) (rw (scan_yes f ok m a h e) at d) r
 
   pub scan_skip : a < m → ok a ≡ false → Adding n ℓ k ws l₀ l (scan f ok (a + 1) m) whole
-  scan_skip h e = rw (scan_no f ok a m h e) at d
+  scan_skip h e = rw (scan_no f ok m a h e) at d
 
   pub scan_done : m ≤ a → Added n ℓ l₀ l whole
-  scan_done h = adding_end (rw (scan_end f ok a m h) at d)
+  scan_done h = adding_end (rw (scan_end f ok m a h) at d)
 
--- the starts of a subset: len is what the code reads as its size
-module _ {n ℓ k : ℕ} {ws l₀ l whole : List ℕ} (outside : Bool) (s len a : ℕ) (d : Adding n ℓ k ws l₀ l (starts_from n outside s (size_in s) a) whole)
-    (f : len ≡ size_in s) (b : Bool) (e : b ≡ on_side n outside (a + len + 2)) (h : a < n) where
-  passes : on_side n outside (a + size_in s + 2) ≡ b
-  passes = rw f at (sym e)
+-- the starts of a subset that are on the side
+module _ {n : ℕ} {outside : Bool} {len : ℕ} {starts : Range ℕ} (s : ℕ) (r : StartsAre n len outside starts) (f : len ≡ size_in s) where
+  on : (i : ℕ) → starts.start ≤ i → i < starts.end → on_side n outside (i + size_in s + 2) ≡ true
+  on i g h = rw f at ((r.exact i (omega (arith, r.within))).1 (g, h))
 
-  pub starts_ask : StartsAsk n s (size_in s) → b ≡ true → AddAsk n ℓ k ws l ((s * 9 + a) ∷ []) × Known n (s * 9 + a)
-  unfolding starts_from
-  starts_ask q t =
-      let z = d.ask.size in
-      let u : (s * 9 + a) / 9 ≡ s = omega (arith, z.high) in
-      let v : (s * 9 + a) % 9 ≡ a = omega (arith, z.high) in
-      (scan_ask _ _ a n d h (passes ∙ t), record { within = omega (arith, q.among, z.high); starts = rw v h; digits = rw u q.digits })
+  off : (i : ℕ) → i < n → ((starts.start ≤ i) × (i < starts.end) → ⊥) → on_side n outside (i + size_in s + 2) ≡ false
+  off i h d = rw (← f) (go (on_side n outside (i + len + 2)) (r.exact i h).0)
+    where
+      go : (b : Bool) → (IsTrue b → (starts.start ≤ i) × (i < starts.end)) → b ≡ false
+      go true e = absurd (d (e refl))
+      go false e = refl
 
-  pub starts_next : b ≡ true → {l' : List ℕ} → Added n ℓ l l' ((s * 9 + a) ∷ []) → Adding n ℓ k ws l₀ l' (starts_from n outside s (size_in s) (a + 1)) whole
-  unfolding starts_from
-  starts_next t r = scan_next _ _ a n d h (passes ∙ t) r
+  module _ {ℓ k : ℕ} {ws l₀ : List ℕ} where
+    pub starts_start : AddAsk n ℓ k ws l₀ (starts_from n outside s (size_in s) 0) →
+        Adding n ℓ k ws l₀ l₀ (starts_from n outside s (size_in s) starts.start) (starts_from n outside s (size_in s) 0)
+    unfolding starts_from
+    starts_start a = rw (← scan_after _ _ n starts.start (λ i h j. off i j (λ q. omega (arith, q.0)))) (adding_start a)
 
-  pub starts_skip : b ≡ false → Adding n ℓ k ws l₀ l (starts_from n outside s (size_in s) (a + 1)) whole
-  unfolding starts_from
-  starts_skip t = scan_skip _ _ a n d h (passes ∙ t)
+    module _ {l whole : List ℕ} {a : ℕ} (d : Adding n ℓ k ws l₀ l (starts_from n outside s (size_in s) a) whole) where
+      pub starts_ask : starts.start ≤ a → a < starts.end → StartsAsk n s (size_in s) → AddAsk n ℓ k ws l ((s * 9 + a) ∷ []) × Known n (s * 9 + a)
+      unfolding starts_from
+      starts_ask g h q =
+          let z = d.ask.size in
+          let i : a < n = omega (arith, r.within) in
+          let u : (s * 9 + a) / 9 ≡ s = omega (arith, z.high) in
+          let v : (s * 9 + a) % 9 ≡ a = omega (arith, z.high) in
+          (scan_ask _ _ a n d i (on a g h), record { within = omega (arith, q.among, z.high); starts = rw v i; digits = rw u q.digits })
 
-pub starts_end : {n ℓ k : ℕ} {ws l₀ l whole : List ℕ} (outside : Bool) (s len a : ℕ) → Adding n ℓ k ws l₀ l (starts_from n outside s len a) whole → n ≤ a →
-    Added n ℓ l₀ l whole
-unfolding starts_from
-starts_end outside s len a d h = scan_done _ _ a _ d h
+      pub starts_next : starts.start ≤ a → a < starts.end → {l' : List ℕ} → Added n ℓ l l' ((s * 9 + a) ∷ []) →
+          Adding n ℓ k ws l₀ l' (starts_from n outside s (size_in s) (a + 1)) whole
+      unfolding starts_from
+      starts_next g h t = scan_next _ _ a n d (omega (arith, r.within)) (on a g h) t
+
+      pub starts_end : starts.end ≤ a → Added n ℓ l₀ l whole
+      unfolding starts_from
+      starts_end h =
+          let z : (i : ℕ) → a ≤ i → i < n → on_side n outside (i + size_in s + 2) ≡ false = λ i j q. off i q (λ o. omega (arith, o.1)) in
+          let e = scan_none (λ i. (s * 9 + i) ∷ []) (λ i. on_side n outside (i + size_in s + 2)) n n a (omega arith) z in
+          adding_end (rw e at d)
 
 -- those of one sum: the subsets from .. to
 pub sum_start : {n ℓ k : ℕ} {ws l : List ℕ} (outside : Bool) (want from : ℕ) → from ≡ from_sum want → AddAsk n ℓ k ws l (side_of n outside want) →

@@ -1,16 +1,17 @@
 // The live arrangements of each line and their supports, before any strike (in the Rust: init_live_tuples).
 #![tactic(auto)]
 
-ghost use Rattle.std.specs.Prelude.{◌≡◌, ◌∷◌, [], ℕ, ◌≤◌, ◌<◌};
+ghost use Rattle.std.specs.Prelude.{◌≡◌, ◌∷◌, [], ℕ, ◌+◌, ◌≤◌, ◌<◌};
 ghost use Rattle.rules.specs.Check.{max_target};
-ghost use Rattle.words.specs.Word.{size_in, part, on_side, Known};
+ghost use Rattle.words.specs.Word.{size_in, part, Known};
 ghost use Rattle.listing.specs.Numbers.{starts_from, side_of, numbers_for};
-ghost use Rattle.listing.specs.Sides.{is_outside};
+ghost use Rattle.listing.specs.Sides.{is_outside, StartsAre};
 ghost use Rattle.listing.specs.Listing.{Raised, one_at, digits_at, inner_to, RaiseAsk, WordAsk, Added, AddAsk, StartsAsk, OpenAsk, LinesListed};
 
 use lane::Lane;
 use puzzle::max_target;
 use queue_state::Slab;
+use std::ops::Range;
 use value::Bits;
 use words::{Subset, first_of, from_sum, second_of, set_of};
 
@@ -75,14 +76,16 @@ enum Side {
 }
 
 impl Side {
-    // It has the arrangements that take the places before end.
+    // Where its arrangements with len digits start: those inside end within the line, and the others start behind them.
     #[tactic(auto, unfolding(words::specs::Word::on_side))]
-    fn has(self, n: usize, end: usize) -> bool
-        ensures { result ≡ on_side n (is_outside self) end }
+    fn starts(self, n: usize, len: usize) -> Range<usize>
+        requires { len + 2 ≤ n }
+        ensures { StartsAre n len (is_outside self) result }
     {
+        let split = n - len - 1;
         match self {
-            Side::Inside => end <= n,
-            Side::Outside => n < end,
+            Side::Inside => 0..split,
+            Side::Outside => split..n,
         }
     }
 }
@@ -93,10 +96,8 @@ fn list_starts(st: &mut [u16], words: &[u32], n: usize, lane: Lane, side: Side, 
     ensures { Added n lane.number st.old st.new (starts_from n (is_outside side) s (size_in s) 0) }
 {
     let len = usize::from(Subset::ALL[s] / 8192);
-    for start in 0..n {
-        if side.has(n, start + len + 2) {
-            add_arrangement(st, words, n, lane, s * 9 + start);
-        }
+    for start in side.starts(n, len) {
+        add_arrangement(st, words, n, lane, s * 9 + start);
     }
 }
 

@@ -9,12 +9,13 @@ list_line-requires c = row_ask c.requires _ c.loop-i-test.true c.loop-i.invarian
 
 pub list_line-requires-in-loop-i : goal.list_line-requires-in-loop-i
 list_line-requires-in-loop-i c =
-    column_ask c.requires _ c.loop-i-test.true c.loop-i.invariant _ c.row.ensures c.from.ensures c.list_line.ensures _ c.column.ensures c.from-in-loop-i.ensures
+    column_ask c.requires _ c.loop-i-test.true c.loop-i.invariant _ c.row.ensures c.from.ensures c.list_line.ensures _
+    c.column.ensures c.from-in-loop-i.ensures
 
 pub loop-i-preserved : goal.loop-i-preserved
 loop-i-preserved c =
-    listed_next c.requires _ c.loop-i-test.true c.loop-i.invariant _ c.row.ensures c.from.ensures c.list_line.ensures _ c.column.ensures c.from-in-loop-i.ensures
-    c.list_line-in-loop-i.ensures
+    listed_next c.requires _ c.loop-i-test.true c.loop-i.invariant _ c.row.ensures c.from.ensures c.list_line.ensures _
+    c.column.ensures c.from-in-loop-i.ensures c.list_line-in-loop-i.ensures
 
 pub returns : goal.returns
 returns c = let e : c.loop-i.i ≡ c.args.n = omega arith in all_listed c.requires (rw e at c.loop-i.invariant)

@@ -1,26 +1,39 @@
 -- `listing::list_starts` meets its contract. Assumes nothing.
+use mathlib.Core.Path.{refl, ◌∙◌}
+use native.Mathlib.Omega.{arith}
 use Rattle.words.specs.Word.{subset, subset_table}
-use Rattle.listing.proofs.AddLaws.{adding_start, starts_ask, starts_next, starts_skip, starts_end}
+use Rattle.listing.proofs.AddLaws.{starts_start, starts_ask, starts_next, starts_end}
 use Rattle.listing.proofs.list_starts.Goals as goal
-use Rattle.listing.proofs.list_starts.Goals.{then-has, else-has}
+
+pub starts-start-items-requires : goal.starts-start-items-requires
+unfolding subset subset_table
+starts-start-items-requires c = omega (arith, c.requires.1.few, c.from-len.ensures)
 
 pub loop-start-init : goal.loop-start-init
-loop-start-init c = adding_start c.requires.0
+unfolding subset subset_table
+loop-start-init c =
+    rw c.into_iter-start-iterator.ensures.into_iter_gives
+    (omega arith, refl, starts_start _ c.starts-start-items.ensures c.from-len.ensures c.requires.0)
 
 pub add_arrangement-requires : goal.add_arrangement-requires
 unfolding subset subset_table
 add_arrangement-requires c =
-    starts_ask _ _ _ _ c.loop-start.invariant c.from-len.ensures _ c.has.ensures c.loop-start-test.true c.requires.1 c.if-has.true
+    let v = c.loop-start.invariant in
+    let e = c.in-Some.ensures.steps in
+    let r = rw (← c.into_iter-start-iterator.ensures.into_iter_gives) at c.starts-start-items.ensures in
+    rw e.1.1 (starts_ask _ r c.from-len.ensures v.2 v.0 (omega arith) c.requires.1)
 
 pub loop-start-preserved : goal.loop-start-preserved
 unfolding subset subset_table
 loop-start-preserved c =
-    let g = c.loop-start.invariant in
-    let h = c.loop-start-test.true in
-    elim c.if-has.branch [
-      | then-has w ↦ rw w.st-is (starts_next _ _ _ _ g c.from-len.ensures _ c.has.ensures h w.if-has.true w.add_arrangement.ensures)
-      | else-has w ↦ rw w.st-is (starts_skip _ _ _ _ g c.from-len.ensures _ c.has.ensures h w.if-has.false)
-    ]
+    let v = c.loop-start.invariant in
+    let e = c.in-Some.ensures.steps in
+    let r = rw (← c.into_iter-start-iterator.ensures.into_iter_gives) at c.starts-start-items.ensures in
+    let t = rw e.1.1 at c.add_arrangement.ensures in
+    (omega arith, e.0 ∙ v.1, rw e.1.2 (starts_next _ r c.from-len.ensures v.2 v.0 (omega arith) t))
 
 pub returns : goal.returns
-returns c = starts_end _ _ _ _ c.loop-start.invariant c.loop-start-test.false
+unfolding subset subset_table
+returns c =
+    let r = rw (← c.into_iter-start-iterator.ensures.into_iter_gives) at c.starts-start-items.ensures in
+    starts_end _ r c.from-len.ensures c.loop-start.invariant.2 (omega (arith, c.loop-start.invariant.1, c.in-None.ensures.steps.1.0))

@@ -1,4 +1,6 @@
 -- What holds in the loop of `listing::list_starts`.
+use Prim.Native.Nat.{◌≤◌}
+use mathlib.Core.Path.{◌≡◌}
 use Rattle.words.specs.Word.{size_in}
 use Rattle.listing.specs.Sides.{is_outside}
 use Rattle.listing.specs.Listing.{Adding}
@@ -7,6 +9,8 @@ use Rattle.listing.proofs.list_starts.Given as goal
 
 abbrev pub invariant-loop-start : goal.invariant-loop-start
 invariant-loop-start l =
-    Adding l.n l.lane.number l.lane.first l.words l.initial.st l.st
-    (starts_from l.n (is_outside l.side) l.s (size_in l.s) l.start)
-    (starts_from l.n (is_outside l.side) l.s (size_in l.s) 0)
+    (l.initial.start-iterator.start ≤ l.start-iterator.start)
+    × (l.start-iterator.end ≡ l.initial.start-iterator.end)
+    × Adding l.n l.lane.number l.lane.first l.words l.initial.st l.st
+    (starts_from l.n (is_outside l.fn.side) l.s (size_in l.s) l.start-iterator.start)
+    (starts_from l.n (is_outside l.fn.side) l.s (size_in l.s) 0)
