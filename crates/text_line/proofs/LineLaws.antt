@@ -1,10 +1,11 @@
 -- The checks of a line, one after the other, and the text of each. Assumes nothing.
 use Prim.Native.Nat.{ℕ, suc, ◌+◌, ◌-◌, ◌*◌, ◌≤◌, ◌<◌}
 use mathlib.Core.Path.{◌≡◌, refl, sym, ap, subst, ◌∙◌}
-use mathlib.Core.Bool.{true, false}
-use mathlib.Core.List.{List, [], ◌++◌}
+use mathlib.Core.Bool.{true, false, cond}
+use lib.Dec.{eqb}
+use mathlib.Core.List.{List, [], ◌∷◌, ◌++◌, map}
 use native.Mathlib.Omega.{arith}
-use lib.ListN.{length, get_or, take, drop, length-take, length-drop}
+use lib.ListN.{length, get_or, take, drop, length-drop}
 use lib.Seq.{take_all}
 use borrow.Author.Tests.{eq-eqb, ne_eqb}
 use Rattle.units.specs.Limits.{hall}
@@ -13,10 +14,9 @@ use Rattle.rules.specs.CheckParts.{size_fits}
 use Rattle.rules.proofs.UnitLaws.{plain_checks, hall_puzzle}
 use Rattle.rules.specs.Number.{number, verdict_of}
 use Rattle.rules.specs.Grid.{puzzle}
-use Rattle.text_rules.specs.Fields.{size_of, puzzle_from, number_checks, numbers, line_checks}
+use Rattle.text_rules.specs.Fields.{fields, in_first, value, well_formed, size_of, puzzle_from, number_checks, numbers, line_checks}
 use Rattle.text_rules.specs.Text.{refused_word, number_text, answer_text}
 use Rattle.text_rules.specs.Answered.{Answered}
-use Rattle.text_numbers.specs.Read.{NumbersRead}
 use Rattle.text_answer.specs.Put.{Put}
 use Rattle.text_line.specs.Line.{LineGiven, TargetsAsk, PuzzleText, NumbersAsk, NumbersText}
 use Rattle.text_line.proofs.PuzzleTextLaws.{front_long}
@@ -83,24 +83,30 @@ module _ {ns : List ℕ} {n : ℕ} (e : n ≡ get_or ns 0 0) where
 pub line_short : (line out : List ℕ) → length out < 100 → LineGiven line 0 out out
 line_short line out h = record { short = λ _. (refl, refl); answered = λ g. absurd (omega arith) }
 
-pub line_ask : {line : List ℕ} {k : ℕ} {read : List ℕ} {room : ℕ} → NumbersRead line k read → (k ≡ 0 → ⊥) → length read ≡ 41 → 100 ≤ room → NumbersAsk (take k read) room
-line_ask {line} {k} {read} w z e h = record { some = rw (length-take k read) (omega (arith, w.room)); fits = omega arith }
+-- a line has at least one field
+some_number : (line : List ℕ) → 0 < length (numbers line)
+unfolding numbers fields in_first
+some_number [] = omega arith
+some_number (b ∷ line) = elim (eqb b 32) as (λ t. 0 < length (map value (cond t ([] ∷ fields line) (in_first b (fields line))))) [ true ↦ omega arith | false ↦ some_first b (fields line) ]
+  where
+    some_first : (b : ℕ) (fs : List (List ℕ)) → 0 < length (map value (in_first b fs))
+    some_first b [] = omega arith
+    some_first b (f ∷ fs) = omega arith
 
-pub line_count : {line : List ℕ} {k : ℕ} {read : List ℕ} → NumbersRead line k read → length read ≡ 41 → k ≡ length (take k read)
-line_count {line} {k} {read} w e = front_long k read (omega (arith, w.room))
+pub line_ask : (line ns : List ℕ) {room : ℕ} → ns ≡ numbers line → 100 ≤ room → NumbersAsk ns room
+line_ask line ns e h = record { some = rw e (some_number line); fits = omega arith }
 
-module _ {line : List ℕ} {k : ℕ} {read : List ℕ} (w : NumbersRead line k read) {r : ℕ} {out l : List ℕ} (h : 100 ≤ length out) where
+module _ {line : List ℕ} {r : ℕ} {out l : List ℕ} (h : 100 ≤ length out) where
   given : (text : List ℕ) → Answered line text → Put text r out l → LineGiven line r out l
   given text a p = record { short = λ g. absurd (omega arith); answered = λ _. record { text = text; answers = a; put = p } }
 
-  pub line_11 : k ≡ 0 → Put (refused_word ++ number_text 11) r out l → LineGiven line r out l
+  pub line_11 : well_formed line ≡ false → Put (refused_word ++ number_text 11) r out l → LineGiven line r out l
   unfolding refusal line_checks answer_text
-  line_11 z p =
-      let e = w.none z in given (refused_word ++ number_text 11) (record { grid = []; solves = λ q. absurd (omega (arith, rw e at q)); text_is = rw e }) p
+  line_11 e p =
+      given (refused_word ++ number_text 11) (record { grid = []; solves = λ q. absurd (omega (arith, rw e at q)); text_is = rw e }) p
 
-  pub line_numbers : (k ≡ 0 → ⊥) → NumbersText (take k read) r out l → LineGiven line r out l
+  pub line_numbers : (ns : List ℕ) → (well_formed line ≡ true) × (ns ≡ numbers line) → NumbersText ns r out l → LineGiven line r out l
   unfolding refusal line_checks puzzle_from
-  line_numbers z t =
-      let e = w.some z in
-      let v : NumbersText (numbers line) r out l = subst (λ ns. NumbersText ns r out l) (w.are z) t in
-      given _ (record { grid = v.grid; solves = λ q. v.solves (rw e at q); text_is = rw e }) v.put
+  line_numbers ns e t =
+      let v : NumbersText (numbers line) r out l = subst (λ ns. NumbersText ns r out l) e.1 t in
+      given _ (record { grid = v.grid; solves = λ q. v.solves (rw e.0 at q); text_is = rw e.0 }) v.put

@@ -6,8 +6,9 @@ ghost use Rattle.text_answer.specs.Put.{Put};
 ghost use Rattle.rules.specs.Grid.{puzzle};
 ghost use Rattle.text_line.specs.Line.{LineGiven, solved_text, AnswerAsk, SolveTargetsAsk, TargetsAsk, NumbersAsk, PuzzleText, NumbersText};
 
+use arrayvec::ArrayVec;
 use engine::{Solved, solve};
-use puzzle::{size_fits, wide};
+use puzzle::size_fits;
 use text_answer::{write_refused, write_solved, write_text};
 use text_numbers::read_numbers;
 use units::Unit;
@@ -56,7 +57,7 @@ fn answer_numbers(numbers: &[u8], out: &mut [u8]) -> usize
     requires { NumbersAsk numbers.now (length out.old) }
     ensures { NumbersText numbers.now result out.old out.new }
 {
-    let n = wide(numbers[0]);
+    let n = usize::from(numbers[0]);
     if !size_fits(n) {
         return write_refused(1, out);
     }
@@ -73,10 +74,9 @@ pub fn answer_line(line: &[u8], out: &mut [u8]) -> usize
     if out.len() < 100 {
         return 0;
     }
-    let mut numbers = [0u8; 41];
-    let count = read_numbers(line, &mut numbers);
-    if count == 0 {
-        return write_refused(11, out);
+    let mut room = ArrayVec::new();
+    match read_numbers(line, &mut room) {
+        Some(numbers) => answer_numbers(numbers, out),
+        None => write_refused(11, out),
     }
-    answer_numbers(&numbers[..count], out)
 }

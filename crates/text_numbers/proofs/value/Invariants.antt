@@ -1,11 +1,6 @@
--- What holds in the loops of `text_numbers::value`, and why they end.
-use Prim.Native.Nat.{◌-◌}
-use lib.ListN.{length}
+-- What holds in the loop of `text_numbers::value`: the digits passed have the value v.
 use Rattle.text_numbers.proofs.ValueLaws.{Valued}
 use Rattle.text_numbers.proofs.value.Given as goal
 
-abbrev pub invariant-loop-i : goal.invariant-loop-i
-invariant-loop-i l = Valued l.field l.v l.i
-
-abbrev pub decreases-loop-i : goal.decreases-loop-i
-decreases-loop-i l = length l.field - l.i
+abbrev pub invariant-loop-b : goal.invariant-loop-b
+invariant-loop-b l = Valued l.field l.v l.b-index
