@@ -9,7 +9,7 @@ use lib.ListN.{length, get_or, take, drop, length-drop}
 use lib.Seq.{take_all}
 use borrow.Author.Tests.{eq-eqb, ne_eqb}
 use Rattle.units.specs.Limits.{hall}
-use Rattle.rules.specs.Check.{refusal, puzzle_checks}
+use Rattle.rules.specs.Check.{checked, refusal, puzzle_checks}
 use Rattle.rules.specs.CheckParts.{size_fits}
 use Rattle.rules.proofs.UnitLaws.{plain_checks, hall_puzzle}
 use Rattle.rules.specs.Number.{number, verdict_of}
@@ -25,7 +25,7 @@ use Rattle.text_line.proofs.PuzzleTextLaws.{front_long}
 
 -- where there are twice as many targets, the lengths of the rows and the columns fit
 checks_same : (ns : List ℕ) → length (drop 1 ns) ≡ 2 * get_or ns 0 0 → refusal (number_checks ns) ≡ refusal (puzzle_checks hall (puzzle_from ns))
-unfolding refusal number_checks puzzle_from
+unfolding refusal checked number_checks puzzle_from
 checks_same ns h =
     let n : ℕ = get_or ns 0 0 in
     let r = sym (front_long n (drop 1 ns) (omega arith)) in
@@ -45,12 +45,12 @@ module _ {ns : List ℕ} {n : ℕ} (e : n ≡ get_or ns 0 0) where
       }
 
   pub numbers_1 : {r : ℕ} {out l : List ℕ} → size_fits n ≡ false → Put (refused_word ++ number_text 1) r out l → NumbersText ns r out l
-  unfolding refusal number_checks
+  unfolding refusal checked number_checks
   numbers_1 s w = refused_text 0 (rw (← e, s)) w
 
   module _ {room : ℕ} (a : NumbersAsk ns room) (s : size_fits n ≡ true) where
     pub numbers_2 : {r : ℕ} {out l : List ℕ} → (length ns ≡ 2 * n + 1 → ⊥) → Put (refused_word ++ number_text 2) r out l → NumbersText ns r out l
-    unfolding refusal number_checks
+    unfolding refusal checked number_checks
     numbers_2 h w =
         refused_text 1 (rw (← e, s, ne_eqb (length (drop 1 ns)) (2 * n) (λ q. h (omega (arith, length-drop 1 ns, a.some))))) w
 
@@ -101,12 +101,12 @@ module _ {line : List ℕ} {r : ℕ} {out l : List ℕ} (h : 100 ≤ length out)
   given text a p = record { short = λ g. absurd (omega arith); answered = λ _. record { text = text; answers = a; put = p } }
 
   pub line_11 : well_formed line ≡ false → Put (refused_word ++ number_text 11) r out l → LineGiven line r out l
-  unfolding refusal line_checks answer_text
+  unfolding refusal checked line_checks answer_text
   line_11 e p =
       given (refused_word ++ number_text 11) (record { grid = []; solves = λ q. absurd (omega (arith, rw e at q)); text_is = rw e }) p
 
   pub line_numbers : (ns : List ℕ) → (well_formed line ≡ true) × (ns ≡ numbers line) → NumbersText ns r out l → LineGiven line r out l
-  unfolding refusal line_checks puzzle_from
+  unfolding refusal checked line_checks puzzle_from
   line_numbers ns e t =
       let v : NumbersText (numbers line) r out l = subst (λ ns. NumbersText ns r out l) e.1 t in
       given _ (record { grid = v.grid; solves = λ q. v.solves (rw e.0 at q); text_is = rw e.0 }) v.put

@@ -2,7 +2,7 @@
 use Prim.Native.Nat.{ℕ, zero, suc, ◌-◌, ◌*◌, ◌≤◌, ◌<◌}
 use mathlib.Core.Path.{◌≡◌, refl, sym, ap, subst, ◌∙◌}
 use mathlib.Core.Bool.{true, true≢false}
-use mathlib.Core.List.{List, [], Memᴰ}
+use mathlib.Core.List.{List, [], ◌++◌, Memᴰ}
 use native.Mathlib.Omega.{arith}
 use lib.ListN.{length, take, drop, length-take, length-drop}
 use lib.Seq.{take_all}
@@ -10,27 +10,31 @@ use borrow.Author.Tests.{eq-eqb, ne_eqb, le-leb}
 use Rattle.tally.specs.Tally.{all, join}
 use Rattle.tally.specs.Way.{Way, done, put}
 use Rattle.tally.proofs.TallyLaws.{span_in, and_both}
+use Rattle.std.specs.Prelude.{⊤, Result, Ok, Err}
+use Rattle.refusal.specs.declared.Refusal.{Refusal}
+use Rattle.refusal.specs.Number.{refusal_number, number_of}
 use Rattle.units.specs.Limits.{hall}
 use Rattle.rules.specs.Grid.{digits, Puzzle, puzzle}
 use Rattle.rules.specs.Mark.{marks_of}
 use Rattle.rules.proofs.GridLaws.{solution_way}
-use Rattle.rules.specs.Check.{refusal, puzzle_checks, count_checks, solve_checks}
-use Rattle.rules.specs.Number.{number, verdict_of, Solution}
+use Rattle.rules.specs.Check.{checked, answered, refusal, puzzle_checks, count_checks, solve_checks}
+use Rattle.rules.proofs.CheckLaws.{number_positive, passed_number}
+use Rattle.rules.specs.Number.{Verdict as Found, number, verdict_of, Solution}
 use Rattle.rules.specs.Short.{symbols}
 use Rattle.rules.proofs.SizeLaws.{size_in}
-use Rattle.engine.specs.declared.Solved.{Solved}
-use Rattle.engine.specs.Answer.{solved_as, solve_answer, SolveWritten}
-use Rattle.text_rules.specs.Text.{answer_text}
+use Rattle.engine.specs.declared.Verdict.{Verdict}
+use Rattle.engine.specs.Answer.{verdict_on, solve_answer, SolveWritten}
+use Rattle.text_rules.specs.Text.{refused_word, number_text, answer_text}
 use Rattle.text_answer.specs.Put.{Put, shown, SolvedAsk}
 use Rattle.text_line.specs.Line.{solved_text, shows_grid, AnswerAsk, SolveTargetsAsk, TargetsAsk, PuzzleText}
 
 -- ---- the text of an answer
 
-pub answer_ask : {a b : Solved} {n : ℕ} {g : List ℕ} {room : ℕ} → AnswerAsk a n g room → a ≡ b → shows_grid b ≡ true → (k : ℕ) → k ≤ 9 → SolvedAsk k n g room
+pub answer_ask : {a b : Result Verdict Refusal} {n : ℕ} {g : List ℕ} {room : ℕ} → AnswerAsk a n g room → a ≡ b → shows_grid b ≡ true → (k : ℕ) → k ≤ 9 → SolvedAsk k n g room
 answer_ask w e s k h =
     record { size = w.size; square = w.square; cells = w.cells (ap shows_grid e ∙ s); fits = omega (arith, w.fits) }
 
-pub answer_put : {a b : Solved} {r : ℕ} {out l : List ℕ} (n : ℕ) (g : List ℕ) → a ≡ b → Put (solved_text b n g) r out l → Put (solved_text a n g) r out l
+pub answer_put : {a b : Result Verdict Refusal} {r : ℕ} {out l : List ℕ} (n : ℕ) (g : List ℕ) → a ≡ b → Put (solved_text b n g) r out l → Put (solved_text a n g) r out l
 answer_put n g e w = rw e w
 
 -- ---- the cells of a solution have a text
@@ -48,25 +52,30 @@ way_shown n h (put {c = c} m w) = and_both (cell_shown n c h m) (way_shown n h w
 
 -- ---- the answer of Solve
 
-shows : (k m : ℕ) → shows_grid (solved_as k m) ≡ true → (k ≡ 0) × (0 < m)
-shows (suc k) m e = absurd (true≢false (sym e))
-shows zero zero e = absurd (true≢false (sym e))
-shows zero (suc zero) e = (refl, omega arith)
-shows zero (suc (suc m)) e = (refl, omega arith)
+shows : (r : Result ⊤ Refusal) (m : ℕ) → shows_grid (answered r (verdict_on m)) ≡ true → (r ≡ Ok tt) × (0 < m)
+shows (Err k) m e = absurd (true≢false (sym e))
+shows (Ok tt) zero e = absurd (true≢false (sym e))
+shows (Ok tt) (suc zero) e = (refl, omega arith)
+shows (Ok tt) (suc (suc m)) e = (refl, omega arith)
 
-text_same : (k m n : ℕ) (g : List ℕ) → solved_text (solved_as k m) n g ≡ answer_text k (verdict_of m) n g
+refused_same : (k : ℕ) (v : Found) (n : ℕ) (g : List ℕ) → (k ≡ 0 → ⊥) → refused_word ++ number_text k ≡ answer_text k v n g
+unfolding answer_text
+refused_same zero v n g z = absurd (z refl)
+refused_same (suc k) v n g z = refl
+
+text_same : (r : Result ⊤ Refusal) (m n : ℕ) (g : List ℕ) → solved_text (answered r (verdict_on m)) n g ≡ answer_text (number_of r) (verdict_of m) n g
 unfolding answer_text verdict_of
-text_same (suc k) m n g = refl
-text_same zero zero n g = refl
-text_same zero (suc zero) n g = refl
-text_same zero (suc (suc m)) n g = refl
+text_same (Err k) m n g = refused_same (refusal_number k) (verdict_of m) n g (number_positive k)
+text_same (Ok tt) zero n g = refl
+text_same (Ok tt) (suc zero) n g = refl
+text_same (Ok tt) (suc (suc m)) n g = refl
 
 -- with no marks and cells of the size only the puzzle is checked
-only_puzzle : (p : Puzzle) (len : ℕ) → len ≡ p.size * p.size → refusal (solve_checks hall p [] len) ≡ refusal (puzzle_checks hall p)
-unfolding refusal solve_checks count_checks join
+only_puzzle : (p : Puzzle) (len : ℕ) → len ≡ p.size * p.size → checked (solve_checks hall p [] len) ≡ checked (puzzle_checks hall p)
+unfolding checked solve_checks count_checks join
 only_puzzle p len e = rw (eq-eqb len (p.size * p.size) e)
 
-module _ {n : ℕ} {ts : List ℕ} {room : ℕ} {answer : Solved} {cells cells' : List ℕ} (a : SolveTargetsAsk n ts (length cells) room)
+module _ {n : ℕ} {ts : List ℕ} {room : ℕ} {answer : Result Verdict Refusal} {cells cells' : List ℕ} (a : SolveTargetsAsk n ts (length cells) room)
     (s : (answer ≡ solve_answer hall (puzzle n (take n ts) (take (length ts - n) (drop n ts))) (marks_of []) (length cells))
     × SolveWritten hall (puzzle n (take n ts) (take (length ts - n) (drop n ts))) (marks_of []) cells cells') (long : length cells' ≡ length cells) where
   abbrev p : Puzzle
@@ -75,16 +84,16 @@ module _ {n : ℕ} {ts : List ℕ} {room : ℕ} {answer : Solved} {cells cells' 
   same : p ≡ puzzle n (take n ts) (drop n ts)
   same = ap (puzzle n (take n ts)) (take_all (length ts - n) (drop n ts) (omega (arith, length-drop n ts)))
 
-  accepted : refusal (solve_checks hall p [] (length cells)) ≡ refusal (puzzle_checks hall p)
+  accepted : checked (solve_checks hall p [] (length cells)) ≡ checked (puzzle_checks hall p)
   accepted = only_puzzle p (length cells) a.square
 
-  is : answer ≡ solved_as (refusal (puzzle_checks hall p)) (number p [])
+  is : answer ≡ answered (checked (puzzle_checks hall p)) (verdict_on (number p []))
   unfolding marks_of
-  is = s.0 ∙ ap (λ k. solved_as k (number p [])) accepted
+  is = s.0 ∙ ap (λ r. answered r (verdict_on (number p []))) accepted
 
   solution : refusal (puzzle_checks hall p) ≡ 0 → 0 < number p [] → Solution p [] cells'
-  unfolding marks_of
-  solution e h = s.1.written (accepted ∙ e) h
+  unfolding marks_of refusal
+  solution e h = s.1.written (ap number_of accepted ∙ e) h
 
   pub solve_shown : AnswerAsk answer n cells' room
   solve_shown =
@@ -92,14 +101,15 @@ module _ {n : ℕ} {ts : List ℕ} {room : ℕ} {answer : Solved} {cells cells' 
       record {
         size = z.high;
         square = long ∙ a.square;
-        cells = λ e. let q = shows (refusal (puzzle_checks hall p)) (number p []) (sym (ap shows_grid is) ∙ e) in way_shown n z.high (solution_way (solution q.0 q.1));
+        cells = λ e. let q = shows (checked (puzzle_checks hall p)) (number p []) (sym (ap shows_grid is) ∙ e) in way_shown n z.high (solution_way (solution (passed_number _ q.0) q.1));
         fits = a.fits;
       }
 
   pub solve_text : {r : ℕ} {out l : List ℕ} → Put (solved_text answer n cells') r out l → PuzzleText (puzzle n (take n ts) (drop n ts)) r out l
+  unfolding refusal
   solve_text {r} {out} {l} w =
       let e : solved_text answer n cells' ≡ answer_text (refusal (puzzle_checks hall p)) (verdict_of (number p [])) n cells' =
-      ap (λ x. solved_text x n cells') is ∙ text_same (refusal (puzzle_checks hall p)) (number p []) n cells' in
+      ap (λ x. solved_text x n cells') is ∙ text_same (checked (puzzle_checks hall p)) (number p []) n cells' in
       let t : PuzzleText p r out l = record { grid = cells'; solves = solution; put = subst (λ x. Put x r out l) e w } in
       subst (λ q. PuzzleText q r out l) same t
 

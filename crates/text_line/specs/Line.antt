@@ -1,13 +1,15 @@
 -- What the answer to a line gives, and what its steps ask and give. Assumes nothing.
-use Rattle.std.specs.Prelude.{ℕ, ◌*◌, ◌≤◌, ◌<◌, ◌≡◌, Bool, true, false, List, [], ◌++◌, length}
+use Rattle.std.specs.Prelude.{ℕ, ◌*◌, ◌≤◌, ◌<◌, ◌≡◌, Bool, true, false, List, [], ◌++◌, length, Result, Ok, Err}
 use Rattle.tally.specs.Tally.{all}
+use Rattle.refusal.specs.declared.Refusal.{Refusal}
+use Rattle.refusal.specs.Number.{refusal_number}
 use Rattle.units.specs.Limits.{hall}
 use Rattle.rules.specs.Grid.{Puzzle}
 use Rattle.rules.specs.Check.{refusal, puzzle_checks}
 use Rattle.rules.specs.CheckParts.{size_fits}
 use Rattle.rules.specs.Number.{number, verdict_of, Solution}
-use Rattle.engine.specs.declared.Solved.{Solved}
-use Rattle.engine.specs.declared.Solved.TheVariants.{Refused, Unsolvable, Unique, Multiple}
+use Rattle.engine.specs.declared.Verdict.{Verdict}
+use Rattle.engine.specs.declared.Verdict.TheVariants.{Unsolvable, Unique, Multiple}
 use Rattle.text_rules.specs.Fields.{size_of, puzzle_from, number_checks}
 use Rattle.text_rules.specs.Text.{refused_word, unsolvable_word, unique_word, multiple_word, number_text, grid_text, answer_text}
 use Rattle.text_rules.specs.Answered.{Answered}
@@ -27,21 +29,21 @@ pub record LineGiven (line : List ℕ) (counted : ℕ) (out out' : List ℕ) : T
 -- ---- the steps
 
 -- The text of an answer of Solve.
-abbrev pub solved_text : Solved → ℕ → List ℕ → List ℕ
-solved_text (Refused k) n g = refused_word ++ number_text k
-solved_text Unsolvable n g = unsolvable_word
-solved_text Unique n g = unique_word ++ grid_text n g
-solved_text Multiple n g = multiple_word ++ grid_text n g
+abbrev pub solved_text : Result Verdict Refusal → ℕ → List ℕ → List ℕ
+solved_text (Ok Unsolvable) n g = unsolvable_word
+solved_text (Ok Unique) n g = unique_word ++ grid_text n g
+solved_text (Ok Multiple) n g = multiple_word ++ grid_text n g
+solved_text (Err k) n g = refused_word ++ number_text (refusal_number k)
 
 -- The answer shows a grid.
-abbrev pub shows_grid : Solved → Bool
-shows_grid (Refused k) = false
-shows_grid Unsolvable = false
-shows_grid Unique = true
-shows_grid Multiple = true
+abbrev pub shows_grid : Result Verdict Refusal → Bool
+shows_grid (Ok Unsolvable) = false
+shows_grid (Ok Unique) = true
+shows_grid (Ok Multiple) = true
+shows_grid (Err k) = false
 
 -- An answer, whose grid has a text if it shows one, and room for it.
-pub record AnswerAsk (answer : Solved) (n : ℕ) (g : List ℕ) (room : ℕ) : Type 0 where
+pub record AnswerAsk (answer : Result Verdict Refusal) (n : ℕ) (g : List ℕ) (room : ℕ) : Type 0 where
   pub size : n ≤ 9
   pub square : length g ≡ n * n
   pub cells : shows_grid answer ≡ true → all shown g ≡ true

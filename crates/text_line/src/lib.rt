@@ -7,22 +7,23 @@ ghost use Rattle.rules.specs.Grid.{puzzle};
 ghost use Rattle.text_line.specs.Line.{LineGiven, solved_text, AnswerAsk, SolveTargetsAsk, TargetsAsk, NumbersAsk, PuzzleText, NumbersText};
 
 use arrayvec::ArrayVec;
-use engine::{Solved, solve};
+use engine::{Verdict, solve};
 use puzzle::size_fits;
+use refusal::Refusal;
 use text_answer::{write_refused, write_solved, write_text};
 use text_numbers::read_numbers;
 use units::Unit;
 
 // The text of an answer of Solve.
-fn write_answer(answer: Solved, n: usize, cells: &[u8], out: &mut [u8]) -> usize
+fn write_answer(answer: Result<Verdict, Refusal>, n: usize, cells: &[u8], out: &mut [u8]) -> usize
     requires { AnswerAsk answer n cells.now (length out.old) }
     ensures { Put (solved_text answer n cells.now) result out.old out.new }
 {
     match answer {
-        Solved::Refused(k) => write_refused(k, out),
-        Solved::Unsolvable => write_text(b"unsolvable", out),
-        Solved::Unique => write_solved(b"unique ", n, cells, out),
-        Solved::Multiple => write_solved(b"multiple ", n, cells, out),
+        Ok(Verdict::Unsolvable) => write_text(b"unsolvable", out),
+        Ok(Verdict::Unique) => write_solved(b"unique ", n, cells, out),
+        Ok(Verdict::Multiple) => write_solved(b"multiple ", n, cells, out),
+        Err(refusal) => write_refused(refusal.number(), out),
     }
 }
 
@@ -32,7 +33,7 @@ fn solve_targets(n: usize, targets: &[u8], cells: &mut [u8], out: &mut [u8]) -> 
     ensures { PuzzleText (puzzle n (take n targets.now) (drop n targets.now)) result out.old out.new }
 {
     let answer = solve(
-        Unit::HALL,
+        Unit::hall(),
         n,
         &targets[..n],
         &targets[n..],
@@ -59,10 +60,10 @@ fn answer_numbers(numbers: &[u8], out: &mut [u8]) -> usize
 {
     let n = usize::from(numbers[0]);
     if !size_fits(n) {
-        return write_refused(1, out);
+        return write_refused(Refusal::Size.number(), out);
     }
     if numbers.len() != 2 * n + 1 {
-        return write_refused(2, out);
+        return write_refused(Refusal::TargetLengths.number(), out);
     }
     answer_targets(n, &numbers[1..], out)
 }
@@ -77,6 +78,6 @@ pub fn answer_line(line: &[u8], out: &mut [u8]) -> usize
     let mut room = ArrayVec::new();
     match read_numbers(line, &mut room) {
         Some(numbers) => answer_numbers(numbers, out),
-        None => write_refused(11, out),
+        None => write_refused(Refusal::TextLine.number(), out),
     }
 }

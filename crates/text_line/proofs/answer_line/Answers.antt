@@ -10,4 +10,4 @@ returns-in-Some c =
     line_numbers c.if-out-lt100.false _ c.in-Some.ensures c.answer_numbers.ensures
 
 pub returns-in-None : goal.returns-in-None
-returns-in-None c = line_11 c.if-out-lt100.false c.in-None.ensures c.write_refused.ensures
+returns-in-None c = line_11 c.if-out-lt100.false c.in-None.ensures (rw c.number.ensures at c.write_refused.ensures)

@@ -7,7 +7,7 @@ pub slice_bounds-solve-end : goal.slice_bounds-solve-end
 slice_bounds-solve-end c = search (rules, rows_long)
 
 pub write_answer-requires : goal.write_answer-requires
-write_answer-requires c = solve_shown c.requires c.solve-answer.ensures c.solve-answer.auto.cells
+write_answer-requires c = solve_shown c.requires (rw c.hall.ensures at c.solve-answer.ensures) c.solve-answer.auto.cells
 
 pub returns : goal.returns
-returns c = solve_text c.requires c.solve-answer.ensures c.solve-answer.auto.cells c.write_answer.ensures
+returns c = solve_text c.requires (rw c.hall.ensures at c.solve-answer.ensures) c.solve-answer.auto.cells c.write_answer.ensures

@@ -1,23 +1,35 @@
 -- `text_line::write_answer` meets its contract. Assumes nothing.
-use mathlib.Core.Path.{refl}
+use mathlib.Core.Path.{◌≡◌, refl, ap, ◌∙◌}
 use native.Mathlib.Omega.{arith}
+use Rattle.std.specs.Prelude.{Ok, Err}
+use Rattle.engine.specs.declared.Verdict.TheVariants.{Unsolvable, Unique, Multiple}
 use Rattle.text_line.proofs.PuzzleTextLaws.{answer_ask, answer_put}
 use Rattle.text_line.proofs.write_answer.Goals as goal
 
 pub write_solved-requires : goal.write_solved-requires
-write_solved-requires c = answer_ask c.requires c.in-Unique.is refl 7 (omega arith)
+write_solved-requires c =
+    let e : c.args.answer ≡ Ok Unique = c.in-Ok-Unique.is ∙ ap Ok (rw c.in-Ok-Unique.is at c.in-Ok-Unique.field-0-is) in
+    answer_ask c.requires e refl 7 (omega arith)
 
-pub write_solved-requires-in-Multiple : goal.write_solved-requires-in-Multiple
-write_solved-requires-in-Multiple c = answer_ask c.requires c.in-Multiple.is refl 9 (omega arith)
+pub write_solved-requires-in-Ok-Multiple : goal.write_solved-requires-in-Ok-Multiple
+write_solved-requires-in-Ok-Multiple c =
+    let e : c.args.answer ≡ Ok Multiple = c.in-Ok-Multiple.is ∙ ap Ok (rw c.in-Ok-Multiple.is at c.in-Ok-Multiple.field-0-is) in
+    answer_ask c.requires e refl 9 (omega arith)
 
-pub returns-in-Refused : goal.returns-in-Refused
-returns-in-Refused c = answer_put _ _ c.in-Refused.is c.write_refused.ensures
+pub returns-in-Ok-Unsolvable : goal.returns-in-Ok-Unsolvable
+returns-in-Ok-Unsolvable c =
+    let e : c.args.answer ≡ Ok Unsolvable = c.in-Ok-Unsolvable.is ∙ ap Ok (rw c.in-Ok-Unsolvable.is at c.in-Ok-Unsolvable.field-0-is) in
+    answer_put _ _ e c.write_text.ensures
 
-pub returns-in-Unsolvable : goal.returns-in-Unsolvable
-returns-in-Unsolvable c = answer_put _ _ c.in-Unsolvable.is c.write_text.ensures
+pub returns-in-Ok-Unique : goal.returns-in-Ok-Unique
+returns-in-Ok-Unique c =
+    let e : c.args.answer ≡ Ok Unique = c.in-Ok-Unique.is ∙ ap Ok (rw c.in-Ok-Unique.is at c.in-Ok-Unique.field-0-is) in
+    answer_put _ _ e c.write_solved.ensures
 
-pub returns-in-Unique : goal.returns-in-Unique
-returns-in-Unique c = answer_put _ _ c.in-Unique.is c.write_solved.ensures
+pub returns-in-Ok-Multiple : goal.returns-in-Ok-Multiple
+returns-in-Ok-Multiple c =
+    let e : c.args.answer ≡ Ok Multiple = c.in-Ok-Multiple.is ∙ ap Ok (rw c.in-Ok-Multiple.is at c.in-Ok-Multiple.field-0-is) in
+    answer_put _ _ e c.write_solved-in-Ok-Multiple.ensures
 
-pub returns-in-Multiple : goal.returns-in-Multiple
-returns-in-Multiple c = answer_put _ _ c.in-Multiple.is c.write_solved-in-Multiple.ensures
+pub returns-in-Err : goal.returns-in-Err
+returns-in-Err c = answer_put _ _ c.in-Err.is (rw c.number.ensures at c.write_refused.ensures)
