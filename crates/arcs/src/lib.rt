@@ -190,7 +190,7 @@ fn update_line(st: &mut [u16], words: &[u32], n: usize, lane: Lane, p: usize, v:
     st[Slab::LENGTHS + lane.number] = len as u16;
 }
 
-// The same, if any of them has it there: a value of the other half has no support in the line. Inline, since a call to find that out costs more than it saves.
+// The same, if any of them has it there: a value of the other half has no support in the line. Inline, else LLVM takes the sweep in here: 8 % more work.
 #[inline(always)]
 fn update_supported(st: &mut [u16], words: &[u32], n: usize, lane: Lane, p: usize, v: usize)
     requires { LineAsk n lane.number lane p v words.now st.old }
