@@ -56,7 +56,7 @@ module _ (n t : ℕ) (l : List ℕ) where
 
 -- the same of line i of some lines, as a walk over them has it
 module _ (line : Line) (t : ℕ) {g : List ℕ} {start stride n : ℕ} (e : (line.cells.now ≡ g) × (line.start ≡ start) × (line.stride ≡ stride) × (line.len ≡ n))
-  (fault : Option LineFault) (f : fault ≡ line_fault line.len t (line_cells line)) where
+    (fault : Option LineFault) (f : fault ≡ line_fault line.len t (line_cells line)) where
   pub line_breaks : is_some fault ≡ true → keeps_line n t (strided start stride g n) ≡ false
   line_breaks s = rw (← cells_of line e, ← e.3) (fault_breaks line.len t (line_cells line) fault f s)
 

@@ -1,11 +1,11 @@
 -- The checks of marking, and the sheet, line by line. Assumes nothing.
 use Prim.Native.Nat.{ℕ, ◌*◌}
-use mathlib.Core.Path.{◌≡◌, refl, sym, ap, ◌∙◌}
+use mathlib.Core.Path.{◌≡◌, sym, ap, ◌∙◌}
 use mathlib.Core.Bool.{Bool, true, false, ◌&&◌}
 use mathlib.Core.List.{List, [], ◌∷◌}
 use lib.ListN.{length, get_or}
 use borrow.Author.Tests.{eq-eqb, ne_eqb, eqb-true}
-use Rattle.std.specs.Prelude.{⊤, Result, Ok, Err}
+use Rattle.std.specs.Prelude.{Ok, Err}
 use Rattle.tally.specs.Tally.{all, span}
 use Rattle.refusal.specs.declared.Refusal.{Refusal}
 use Rattle.refusal.specs.declared.Refusal.TheVariants.{CellsLength}
@@ -64,8 +64,8 @@ fit u p g q =
     }
 
 module _ (n : ℕ) (rows columns g : List ℕ) (across down : Lines)
-  (a : (across.cells.now ≡ g) × (across.step ≡ n) × (across.stride ≡ 1) × (across.count ≡ n))
-  (d : (down.cells.now ≡ g) × (down.step ≡ 1) × (down.stride ≡ n) × (down.count ≡ n)) where
+    (a : (across.cells.now ≡ g) × (across.step ≡ n) × (across.stride ≡ 1) × (across.count ≡ n))
+    (d : (down.cells.now ≡ g) × (down.step ≡ 1) × (down.stride ≡ n) × (down.count ≡ n)) where
   split : keeps (puzzle n rows columns) g ≡ (lines_kept across rows && lines_kept down columns)
   unfolding keeps target
   split = rw (a.0, a.1, a.2, a.3, d.0, d.1, d.2, d.3) (all_each_line (λ ℓ l. keeps_line n (target (puzzle n rows columns) ℓ) l) n g)

@@ -111,7 +111,13 @@ fn lines_keep(lines: Lines, targets: &[u8]) -> bool
 }
 
 // The checks of a sheet in a unit.
-fn check_sheet(unit: Unit, n: usize, rows: &[u8], columns: &[u8], cells: &[u8]) -> Result<(), Refusal>
+fn check_sheet(
+    unit: Unit,
+    n: usize,
+    rows: &[u8],
+    columns: &[u8],
+    cells: &[u8],
+) -> Result<(), Refusal>
     ensures { result ≡ checked (sheet_checks unit (puzzle n rows.now columns.now) cells.now) }
 {
     check_puzzle(unit, n, rows, columns)?;

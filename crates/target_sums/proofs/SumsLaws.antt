@@ -17,7 +17,6 @@ use Rattle.units.specs.declared.Unit.{Unit}
 use Rattle.units.specs.Limits.{takes_size}
 use Rattle.rules.specs.Size.{Size}
 use Rattle.rules.specs.Grid.{line_sum}
-use Rattle.rules.proofs.GridLaws.{place_lt}
 use Rattle.rules.specs.Check.{Check, checked, refusal, check_line, sums_checks}
 use Rattle.rules.specs.CheckParts.{size_fits, targets_fit}
 use Rattle.rules.proofs.CheckLaws.{checked_skip, checked_stop, passed_checks, passed_number, number_positive, refusal_none, refusal_none_left, refusal_none_right, refusal_none_each, numbered, lacks_join}

@@ -1,5 +1,5 @@
 -- What the walk along a line has found. Assumes nothing.
-use Rattle.std.specs.Prelude.{ℕ, ◌+◌, ◌*◌, ◌≤◌, ◌<◌, ◌≡◌, List, [], ◌∷◌, ◌++◌, length, drop}
+use Rattle.std.specs.Prelude.{ℕ, ◌+◌, ◌*◌, ◌≤◌, ◌<◌, ◌≡◌, List, [], ◌∷◌, ◌++◌, drop}
 use Rattle.tally.specs.Tally.{sum, count}
 use Rattle.rules.specs.Grid.{is_black, until_black, inside, line_sum}
 use Rattle.rules.specs.CheckParts.{is_empty}

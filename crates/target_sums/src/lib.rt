@@ -136,7 +136,13 @@ fn put_sums(lines: Lines, out: &mut [u8])
 }
 
 // The checks of target sums in a unit.
-fn check_sums(unit: Unit, n: usize, cells: &[u8], rows: usize, columns: usize) -> Result<(), Refusal>
+fn check_sums(
+    unit: Unit,
+    n: usize,
+    cells: &[u8],
+    rows: usize,
+    columns: usize,
+) -> Result<(), Refusal>
     ensures { result ≡ checked (sums_checks unit n cells.now rows columns) }
 {
     if !size_fits(n) {

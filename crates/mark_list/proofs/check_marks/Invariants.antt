@@ -1,5 +1,5 @@
 -- What holds in the loops of `mark_list::check_marks`, and why they end.
-use Prim.Native.Nat.{◌≤◌, ◌-◌, ◌*◌}
+use Prim.Native.Nat.{◌*◌}
 use mathlib.Core.Path.{◌≡◌}
 use lib.ListN.{drop}
 use Rattle.rules.specs.Mark.{marks_of}

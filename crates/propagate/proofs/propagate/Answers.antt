@@ -3,7 +3,7 @@ use native.Mathlib.Omega.{arith}
 use Prim.Native.Nat.{◌<◌, ◌/◌}
 use mathlib.Core.Path.{refl}
 use Rattle.queue_state.specs.Slab.{tail}
-use Rattle.propagate.proofs.Loop.{loop_start, loop_size, loop_tail, loop_cell, loop_ask, loop_empty, loop_next}
+use Rattle.propagate.proofs.Loop.{loop_start, loop_size, loop_cell, loop_ask, loop_empty, loop_next}
 use Rattle.propagate.proofs.Rest.{loop_end}
 use Rattle.propagate.proofs.propagate.Goals as goal
 

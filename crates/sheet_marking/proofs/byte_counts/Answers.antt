@@ -1,5 +1,5 @@
 -- `sheet_marking::byte_counts` meets its contract: the walk has counted the first j cells. Assumes nothing.
-use mathlib.Core.Path.{◌≡◌, refl, ap, ◌∙◌}
+use mathlib.Core.Path.{◌≡◌, refl}
 use native.Mathlib.Omega.{arith}
 use Rattle.tally.specs.Tally.{span}
 use Rattle.rules.proofs.StridedLaws.{strided_next, strided_length}

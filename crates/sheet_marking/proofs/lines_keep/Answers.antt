@@ -1,6 +1,6 @@
 -- `sheet_marking::lines_keep` meets its contract: the lines from i on decide. Assumes nothing.
 use Prim.Native.Nat.{◌-◌}
-use mathlib.Core.Path.{◌≡◌, sym, ap, ◌∙◌}
+use mathlib.Core.Path.{◌≡◌, sym, ◌∙◌}
 use native.Mathlib.Omega.{arith}
 use Rattle.rules.proofs.EachLaws.{below_yes, below_no, below_end}
 use Rattle.sheet_marking.proofs.FaultLaws.{line_breaks, line_kept}

@@ -1,6 +1,5 @@
 -- `target_sums::scan_line` meets its contract: the walk has seen the first j cells. Assumes nothing.
 use mathlib.Core.Path.{refl}
-use native.Mathlib.Omega.{arith}
 use borrow.Author.Rules.{rules}
 use Rattle.tally.specs.Tally.{span}
 use Rattle.rules.proofs.StridedLaws.{strided_next}
