@@ -25,7 +25,13 @@ pub enum Verdict {
 }
 
 // The checks of a puzzle and its marks.
-fn check_count(unit: Unit, n: usize, rows: &[u8], columns: &[u8], marks: &[u8]) -> Result<(), Refusal>
+fn check_count(
+    unit: Unit,
+    n: usize,
+    rows: &[u8],
+    columns: &[u8],
+    marks: &[u8],
+) -> Result<(), Refusal>
     ensures { result ≡ checked (count_checks unit (puzzle n rows.now columns.now) (marks_of marks.now)) }
 {
     check_puzzle(unit, n, rows, columns)?;
