@@ -42,9 +42,8 @@ use Rattle.invariants.proofs.StateLaws.{table_kept}
 use Rattle.written.specs.Published.{PublishedTable}
 use Rattle.written.proofs.MaskLaws.{published_table}
 use Rattle.prepare.specs.Prepared.{Marked}
-use Rattle.engine.specs.Answer.{SolveAsk}
 use Rattle.engine.proofs.CountLaws.{count_left}
-use Rattle.engine.proofs.SolveLaws.{solve_small}
+use Rattle.engine.proofs.SolveLaws.{SolveAsk, solve_small}
 use Rattle.candidates.specs.declared.Outcome.TheVariants.{Contradicted, Written}
 use Rattle.candidates.specs.Remaining.{Remaining, WrittenTable, TableGiven, Tabled}
 use Rattle.candidates.proofs.SameClosed.{closed_same}

@@ -1,14 +1,13 @@
 // Candidates: the table of candidates after the marks and one more propagation (in the Rust: domains after propagate).
 #![tactic(auto)]
 
-ghost use Rattle.std.specs.Prelude.{length};
+ghost use Rattle.std.specs.Prelude.{◌≡◌, ◌*◌, length};
 ghost use Rattle.rules.specs.Mark.{marks_of};
 ghost use Rattle.rules.specs.Grid.{puzzle};
-ghost use Rattle.engine.specs.Answer.{SolveAsk};
 ghost use Rattle.candidates.specs.Remaining.{TableGiven, Tabled};
 
 use engine::check_solve;
-use prepare::prepare;
+use prepare::{Question, prepare};
 use propagate::propagate;
 use queue_state::Slab;
 use refusal::Refusal;
@@ -22,20 +21,20 @@ pub enum Outcome {
     Written,
 }
 
-// Writes the table of what is not refused; false if a cell is left without candidates.
-fn write_table(n: usize, rows: &[u8], columns: &[u8], marks: &[u8], table: &mut [u16]) -> bool
-    requires { SolveAsk (puzzle n rows.now columns.now) (marks_of marks.now) (length table.old) }
-    ensures { Tabled (puzzle n rows.now columns.now) (marks_of marks.now) result table.old table.new }
+// Writes the table of a question; false if a cell is left without candidates.
+fn write_table(q: Question, table: &mut [u16]) -> bool
+    requires { length table.old ≡ q.size * q.size }
+    ensures { Tabled (puzzle q.entry.size q.entry.rows.now q.entry.columns.now) (marks_of q.entry.marks.now) result table.old table.new }
 {
     let mut st = [0u16; Slab::SIZE];
     let mut words = [0u32; 1152];
-    let prepared = prepare(&mut st, &mut words, n, rows, columns, marks);
+    let prepared = prepare(&mut st, &mut words, q);
     if !prepared {
         return false;
     }
-    let rests = propagate(&mut st, &words, n);
+    let rests = propagate(&mut st, &words, q.size);
     if rests {
-        write_candidates(&st, n, table);
+        write_candidates(&st, q.size, table);
         return true;
     }
     false
@@ -54,7 +53,13 @@ pub fn candidates(
         result table.old table.new }
 {
     check_solve(unit, size, rows, columns, marks, table.len())?;
-    if write_table(size, rows, columns, marks, table) {
+    let question = Question {
+        size,
+        rows,
+        columns,
+        marks,
+    };
+    if write_table(question, table) {
         Ok(Outcome::Written)
     } else {
         Ok(Outcome::Contradicted)

@@ -1,7 +1,7 @@
 -- The count from the search, and the answer from the count. Assumes nothing.
-use Prim.Native.Nat.{ℕ, zero, suc, ◌≤◌, min}
+use Prim.Native.Nat.{ℕ, ◌≤◌, min}
 use mathlib.Core.Path.{◌≡◌, refl, sym, ap, ◌∙◌}
-use mathlib.Core.Bool.{Bool, false, true≢false}
+use mathlib.Core.Bool.{Bool, false}
 use mathlib.Core.List.{List}
 use native.Mathlib.Omega.{arith}
 use lib.ListN.{length}
@@ -11,7 +11,9 @@ use Rattle.refusal.specs.declared.Refusal.{Refusal}
 use Rattle.refusal.specs.declared.Refusal.TheVariants.{ListLimit}
 use Rattle.units.specs.declared.Unit.{Unit}
 use Rattle.units.specs.Limits.{takes_list}
-use Rattle.rules.specs.Grid.{Puzzle}
+use Rattle.rules.specs.Grid.{Puzzle, puzzle}
+use Rattle.rules.specs.Mark.{marks_of}
+use Rattle.puzzle.specs.Accepted.{AcceptedPuzzle}
 use Rattle.rules.specs.Check.{checked, refusal, puzzle_checks, count_checks}
 use Rattle.rules.specs.CheckParts.{mark_checks, list_checks}
 use Rattle.rules.specs.Number.{number, capped}
@@ -21,11 +23,11 @@ use Rattle.soundness.proofs.SameLaws.{same_left, same_ext}
 use Rattle.soundness.proofs.MarkLaws.{marks_number}
 use Rattle.soundness.proofs.MarkLaws as marks
 use Rattle.queue_state.specs.Slab.{table_in}
-use Rattle.fresh.specs.Fresh.{Blank}
 use Rattle.line_laws.proofs.CellValues.{value_small}
-use Rattle.backtrack.specs.Search.{SearchAsk, Searched}
-use Rattle.prepare.specs.Prepared.{PrepareAsk, Prepared, Marked}
-use Rattle.engine.specs.Answer.{count_answer, CountAsk}
+use Rattle.backtrack.specs.Search.{Searched}
+use Rattle.prepare.specs.declared.Question.{Question}
+use Rattle.prepare.specs.Prepared.{Prepared, Marked}
+use Rattle.engine.specs.Answer.{count_answer}
 
 -- ---- refusals
 
@@ -37,6 +39,14 @@ module _ (u : Unit) (p : Puzzle) (ms : List ℕ) where
   pub refused_list : Ok tt ≡ checked (puzzle_checks u p) → checked (list_checks u p.size ms) ≡ checked (count_checks u p ms)
   unfolding count_checks
   refused_list d = sym (checked_skip (puzzle_checks u p) (list_checks u p.size ms) (sym d))
+
+-- a puzzle and marks that are not refused, whatever the unit
+pub record CountAsk (p : Puzzle) (ms : List ℕ) : Type 0 where
+  pub puzzle : AcceptedPuzzle p
+  pub marks : refusal (mark_checks p.size ms) ≡ 0
+
+pub question_asks : (q : Question) → CountAsk (puzzle q.size q.rows.now q.columns.now) (marks_of q.marks.now)
+question_asks q = record { puzzle = q.puzzle_passes; marks = q.marks_pass }
 
 -- what a unit does not refuse
 pub count_asked : (u : Unit) (p : Puzzle) (ms : List ℕ) → refusal (count_checks u p ms) ≡ 0 → CountAsk p ms
@@ -57,9 +67,6 @@ count_done u p ms cap r d e = rw (← d, e)
 -- ---- the count
 
 module _ {p : Puzzle} {ms : List ℕ} (a : CountAsk p ms) where
-  pub count_prepare : {ws l : List ℕ} → length ws ≡ 1152 → Blank l → PrepareAsk p ms ws l
-  count_prepare w b = record { puzzle = a.puzzle; marks = a.marks; room = w; blank = b }
-
   small : p.size ≤ 9
   small = a.puzzle.size.high
 
@@ -73,9 +80,6 @@ module _ {p : Puzzle} {ms : List ℕ} (a : CountAsk p ms) where
     count_left =
         same_left (same_ext p small (λ r c v hr hc k. m.table r c v (omega (arith, small)) (omega (arith, small)) (value_small p.size v small k)))
         ∙ sym (marks_number p small (table_in m.before) ms (marks.accepted p.size ms a.marks) m.whole)
-
-    pub count_search : (room : ℕ) → SearchAsk p.size ws l false room
-    count_search room = record { propagable = m.propagable; fits = λ e. absurd (true≢false (sym e)) }
 
     pub count_found : {cap r : ℕ} {wanted : Bool} {cells cells' : List ℕ} → Searched p.size l cap wanted r cells cells' → r ≡ capped cap p ms
     unfolding capped

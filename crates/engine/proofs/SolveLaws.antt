@@ -27,11 +27,13 @@ use Rattle.table.specs.Steps.{marked_all}
 use Rattle.queue_state.specs.Slab.{table_in}
 use Rattle.line_laws.proofs.CellValues.{value_small}
 use Rattle.backtrack.specs.Search.{SearchAsk, Searched}
+use Rattle.rules.specs.Mark.{marks_of}
+use Rattle.prepare.specs.declared.Question.{Question}
 use Rattle.prepare.specs.Prepared.{Prepared, Marked}
 use Rattle.engine.specs.declared.Verdict.{Verdict}
 use Rattle.engine.specs.declared.Verdict.TheVariants.{Unsolvable, Unique, Multiple}
-use Rattle.engine.specs.Answer.{verdict_on, solve_answer, SolveWritten, SolveAsk, Found}
-use Rattle.engine.proofs.CountLaws.{count_asked, count_found, count_none}
+use Rattle.engine.specs.Answer.{verdict_on, solve_answer, SolveWritten, Found}
+use Rattle.engine.proofs.CountLaws.{CountAsk, question_asks, count_asked, count_found, count_none}
 
 -- ---- refusals
 
@@ -59,6 +61,14 @@ module _ (u : Unit) (p : Puzzle) (ms : List ℕ) (len : ℕ) where
 
 pub refused_small : (u : Unit) (n : ℕ) (rows columns ms : List ℕ) → Ok tt ≡ checked (count_checks u (puzzle n rows columns) ms) → Size n
 refused_small u n rows columns ms d = (count_asked u (puzzle n rows columns) ms (passed_number _ (sym d))).puzzle.size
+
+-- a puzzle, marks and a cell buffer that are not refused, whatever the unit
+pub record SolveAsk (p : Puzzle) (ms : List ℕ) (len : ℕ) : Type 0 where
+  pub count : CountAsk p ms
+  pub room : len ≡ p.size * p.size
+
+pub question_solves : (q : Question) {len : ℕ} → len ≡ q.size * q.size → SolveAsk (puzzle q.size q.rows.now q.columns.now) (marks_of q.marks.now) len
+question_solves q e = record { count = question_asks q; room = e }
 
 -- what a unit does not refuse
 module _ (u : Unit) (p : Puzzle) (ms : List ℕ) (len : ℕ) (e : refusal (solve_checks u p ms len) ≡ 0) where
@@ -90,28 +100,31 @@ verdict_2 (suc (suc k)) a b = refl
 
 -- ---- the search
 
-module _ {p : Puzzle} {ms : List ℕ} {len : ℕ} (a : SolveAsk p ms len) where
-  pub solve_small : p.size ≤ 9
-  solve_small = a.count.puzzle.size.high
+module _ {p : Puzzle} {ms : List ℕ} (a : CountAsk p ms) where
+  found_small : p.size ≤ 9
+  found_small = a.puzzle.size.high
 
-  pub solve_none : {ws l cells : List ℕ} {ok : Bool} → Prepared p ms ws l ok → ok ≡ false → Found p ms 0 cells cells
-  solve_none d e = record { count = count_none a.count 2 d e; untouched = λ _. refl; written = λ h. absurd (omega arith) }
+  pub found_none : {max : ℕ} {wanted : Bool} {ws l cells : List ℕ} {ok : Bool} → Prepared p ms ws l ok → ok ≡ false → Found p ms max wanted 0 cells cells
+  found_none {max} d e = record { count = count_none a max d e; untouched = λ _. refl; written = λ _ h. absurd (omega arith) }
 
   module _ {ws l : List ℕ} (m : Marked p ms ws l) where
-    pub solve_search : SearchAsk p.size ws l true len
-    solve_search = record { propagable = m.propagable; fits = λ _. a.room }
+    pub found_search : {wanted : Bool} {room : ℕ} → (wanted ≡ true → room ≡ p.size * p.size) → SearchAsk p.size ws l wanted room
+    found_search f = record { propagable = m.propagable; fits = f }
 
     in_marks : Within p.size (table_in l) (marked_all (table_in m.before) ms)
-    in_marks = record { kept = λ r c v hr hc k e. sym (m.table r c v (omega (arith, solve_small)) (omega (arith, solve_small)) (value_small p.size v solve_small k)) ∙ e }
+    in_marks = record { kept = λ r c v hr hc k e. sym (m.table r c v (omega (arith, found_small)) (omega (arith, found_small)) (value_small p.size v found_small k)) ∙ e }
 
-    pub solve_found : {r : ℕ} {cells cells' : List ℕ} → Searched p.size l 2 true r cells cells' → Found p ms r cells cells'
-    solve_found {r} {cells} {cells'} s =
+    pub found_grids : {max : ℕ} {wanted : Bool} {r : ℕ} {cells cells' : List ℕ} → Searched p.size l max wanted r cells cells' → Found p ms max wanted r cells cells'
+    found_grids {cells' = cells'} s =
         record {
-          count = count_found a.count m s;
-          untouched = λ e. s.untouched (inl e);
-          written = λ h. let g = s.written refl h p refl m.kept in
-              within_solution p solve_small (table_in m.before) ms (marks.accepted p.size ms a.count.marks) in_marks cells' g.grid g.fit;
+          count = count_found a m s;
+          untouched = s.untouched;
+          written = λ w h. let g = s.written w h p refl m.kept in
+              within_solution p found_small (table_in m.before) ms (marks.accepted p.size ms a.marks) in_marks cells' g.grid g.fit;
         }
+
+pub solve_small : {p : Puzzle} {ms : List ℕ} {len : ℕ} → SolveAsk p ms len → p.size ≤ 9
+solve_small a = a.count.puzzle.size.high
 
 -- ---- the whole call
 
@@ -126,12 +139,12 @@ verdict_capped zero = refl
 verdict_capped (suc zero) = refl
 verdict_capped (suc (suc k)) = let e : min 2 (suc (suc k)) ≡ 2 = omega arith in rw e
 
-pub solve_done : {u : Unit} {p : Puzzle} {ms cells cells' : List ℕ} {r : ℕ} (v : Verdict) → Ok tt ≡ checked (solve_checks u p ms (length cells)) → Found p ms r cells cells' →
+pub solve_done : {u : Unit} {p : Puzzle} {ms cells cells' : List ℕ} {r : ℕ} (v : Verdict) → Ok tt ≡ checked (solve_checks u p ms (length cells)) → Found p ms 2 true r cells cells' →
     v ≡ verdict_on r → (Ok v ≡ solve_answer u p ms (length cells)) × SolveWritten u p ms cells cells'
 unfolding capped
 solve_done {u} {p} {ms} {cells} {cells'} {r} v d f e =
     let q = passed_number (solve_checks u p ms (length cells)) (sym d) in
     let c : v ≡ verdict_on (number p ms) = e ∙ ap verdict_on f.count ∙ verdict_capped (number p ms) in (
       rw (← d, c),
-      record { untouched = λ u. ⊎_elim (λ x. absurd (x q)) (λ x. f.untouched (omega (arith, f.count))) u; written = λ _ h. f.written (omega (arith, f.count)) },
+      record { untouched = λ u. ⊎_elim (λ x. absurd (x q)) (λ x. f.untouched (inl (omega (arith, f.count)))) u; written = λ _ h. f.written refl (omega (arith, f.count)) },
     )

@@ -1,16 +1,15 @@
 // Count and Solve (in the Rust: count_solutions and solve).
 #![tactic(auto)]
 
-ghost use Rattle.std.specs.Prelude.{◌≡◌, length};
+ghost use Rattle.std.specs.Prelude.{◌≡◌, ◌*◌, true, length};
 ghost use Rattle.rules.specs.Mark.{marks_of};
 ghost use Rattle.rules.specs.Check.{checked, count_checks, solve_checks};
-ghost use Rattle.rules.specs.Number.{capped};
 ghost use Rattle.rules.specs.Grid.{puzzle};
-ghost use Rattle.engine.specs.Answer.{count_answer, CountAsk, verdict_on, solve_answer, SolveAsk, Found, SolveWritten};
+ghost use Rattle.engine.specs.Answer.{count_answer, verdict_on, solve_answer, Found, SolveWritten};
 
 use backtrack::search;
 use mark_list::check_list;
-use prepare::prepare;
+use prepare::{Question, prepare};
 use puzzle::check_puzzle;
 use queue_state::Slab;
 use refusal::Refusal;
@@ -38,18 +37,18 @@ fn check_count(
     check_list(unit, n, marks)
 }
 
-// The count of what is not refused.
-fn count_grids(n: usize, rows: &[u8], columns: &[u8], marks: &[u8], cap: u64) -> u64
-    requires { CountAsk (puzzle n rows.now columns.now) (marks_of marks.now) }
-    ensures { result ≡ capped cap (puzzle n rows.now columns.now) (marks_of marks.now) }
+// The number of a question's grids, at most max; the first is written if it is wanted.
+fn find_grids(q: Question, max: u64, wanted: bool, cells: &mut [u8]) -> u64
+    requires { wanted ≡ true → length cells.old ≡ q.size * q.size }
+    ensures { Found (puzzle q.entry.size q.entry.rows.now q.entry.columns.now) (marks_of q.entry.marks.now)
+        max wanted result cells.old cells.new }
 {
     let mut st = [0u16; Slab::SIZE];
     let mut words = [0u32; 1152];
-    if !prepare(&mut st, &mut words, n, rows, columns, marks) {
+    if !prepare(&mut st, &mut words, q) {
         return 0;
     }
-    let mut cells = [0u8; 1];
-    search(&mut st, &words, n, cap, false, &mut cells)
+    search(&mut st, &words, q.size, max, wanted, cells)
 }
 
 // The number of grids that keep the puzzle and the marks, at most the cap.
@@ -64,7 +63,14 @@ pub fn count(
     ensures { result ≡ count_answer unit (puzzle size rows.now columns.now) (marks_of marks.now) cap }
 {
     check_count(unit, size, rows, columns, marks)?;
-    Ok(count_grids(size, rows, columns, marks, cap))
+    let question = Question {
+        size,
+        rows,
+        columns,
+        marks,
+    };
+    let mut cells = [0u8; 1];
+    Ok(find_grids(question, cap, false, &mut cells))
 }
 
 // The checks of a puzzle, its marks and a cell buffer.
@@ -84,19 +90,6 @@ pub fn check_solve(
     } else {
         Err(Refusal::CellsLength)
     }
-}
-
-// The count of what is not refused, up to two; the first grid is written.
-fn solve_grids(n: usize, rows: &[u8], columns: &[u8], marks: &[u8], cells: &mut [u8]) -> u64
-    requires { SolveAsk (puzzle n rows.now columns.now) (marks_of marks.now) (length cells.old) }
-    ensures { Found (puzzle n rows.now columns.now) (marks_of marks.now) result cells.old cells.new }
-{
-    let mut st = [0u16; Slab::SIZE];
-    let mut words = [0u32; 1152];
-    if !prepare(&mut st, &mut words, n, rows, columns, marks) {
-        return 0;
-    }
-    search(&mut st, &words, n, 2, true, cells)
 }
 
 fn verdict_of(found: u64) -> Verdict
@@ -122,5 +115,11 @@ pub fn solve(
         × SolveWritten unit (puzzle size rows.now columns.now) (marks_of marks.now) cells.old cells.new }
 {
     check_solve(unit, size, rows, columns, marks, cells.len())?;
-    Ok(verdict_of(solve_grids(size, rows, columns, marks, cells)))
+    let question = Question {
+        size,
+        rows,
+        columns,
+        marks,
+    };
+    Ok(verdict_of(find_grids(question, 2, true, cells)))
 }

@@ -10,22 +10,25 @@ use borrow.Author.Tests.{leb-true}
 use Rattle.tally.specs.Tally.{all}
 use Rattle.tally.proofs.TallyLaws.{and_left, and_right, false_of}
 use Rattle.rules.specs.Size.{Size}
-use Rattle.rules.specs.Check.{max_target}
+use Rattle.rules.specs.Check.{refusal, max_target}
+use Rattle.rules.specs.CheckParts.{mark_checks}
+use Rattle.rules.specs.Mark.{marks_of}
 use Rattle.table.specs.Steps.{marked_all}
 use Rattle.settled.proofs.EmptyLaws.{empty_left}
 use Rattle.soundness.proofs.MarkLaws.{whole_same, marks_number, marks_kept}
 use Rattle.soundness.specs.Marks.{Whole, AcceptedMark}
 use Rattle.soundness.proofs.MarkLaws as marks
 use Rattle.queue_state.specs.Slab.{table_in}
-use Rattle.fresh.specs.Fresh.{Fresh}
+use Rattle.fresh.specs.Fresh.{Blank, Fresh}
 use Rattle.words.specs.Word.{Words}
 use Rattle.listing.specs.Listing.{OpenAsk}
 use Rattle.opening.specs.Opening.{Opened}
-use Rattle.rules.specs.Grid.{puzzle}
+use Rattle.rules.specs.Grid.{Puzzle, puzzle}
 use Rattle.puzzle.specs.Accepted.{AcceptedPuzzle}
 use Rattle.invariants.specs.State.{Kept, Lagging, PropagateAsk, Propagated}
 use Rattle.apply_marks.specs.Applied.{MarksApplied}
-use Rattle.prepare.specs.Prepared.{PrepareAsk, Prepared}
+use Rattle.prepare.specs.declared.Question.{Question}
+use Rattle.prepare.specs.Prepared.{Prepared}
 use Rattle.prepare.proofs.Begun.{begun_lagging, begun_kept, begun_whole}
 
 -- each target is in range
@@ -34,6 +37,16 @@ unfolding all
 within m [] e i h = absurd (omega arith)
 within m (t ∷ ts) e zero h = leb-true t m (and_left (leb t m) _ e)
 within m (t ∷ ts) e (suc i) h = within m ts (and_right (leb t m) _ e) i (omega arith)
+
+-- A puzzle and marks that are not refused, and blank memory.
+pub record PrepareAsk (p : Puzzle) (ms ws l : List ℕ) : Type 0 where
+  pub puzzle : AcceptedPuzzle p
+  pub marks : refusal (mark_checks p.size ms) ≡ 0
+  pub room : length ws ≡ 1152
+  pub blank : Blank l
+
+pub asked : (q : Question) {ws l : List ℕ} → (length ws ≡ 1152) × Blank l → PrepareAsk (puzzle q.size q.rows.now q.columns.now) (marks_of q.marks.now) ws l
+asked q e = record { puzzle = q.puzzle_passes; marks = q.marks_pass; room = e.0; blank = e.1 }
 
 module _ {n : ℕ} {rows columns ms ws₀ l₀ : List ℕ} (a : PrepareAsk (puzzle n rows columns) ms ws₀ l₀) where
   good : AcceptedPuzzle (puzzle n rows columns)

@@ -1,22 +1,11 @@
 -- The state of a puzzle after its marks. Assumes nothing.
-use Rattle.std.specs.Prelude.{ℕ, ◌<◌, ◌≡◌, Bool, true, false, List, length}
+use Rattle.std.specs.Prelude.{ℕ, ◌<◌, ◌≡◌, Bool, true, false, List}
 use Rattle.rules.specs.Grid.{Puzzle}
-use Rattle.rules.specs.Check.{refusal}
-use Rattle.rules.specs.CheckParts.{mark_checks}
 use Rattle.rules.specs.Number.{number}
-use Rattle.puzzle.specs.Accepted.{AcceptedPuzzle}
 use Rattle.table.specs.Steps.{marked_all}
 use Rattle.soundness.specs.Marks.{Whole}
 use Rattle.queue_state.specs.Slab.{table_in}
-use Rattle.fresh.specs.Fresh.{Blank}
 use Rattle.invariants.specs.State.{Kept, PropagateAsk}
-
--- What it asks: a puzzle and marks that are not refused, and blank memory.
-pub record PrepareAsk (p : Puzzle) (ms ws l : List ℕ) : Type 0 where
-  pub puzzle : AcceptedPuzzle p
-  pub marks : refusal (mark_checks p.size ms) ≡ 0
-  pub room : length ws ≡ 1152
-  pub blank : Blank l
 
 -- A state that may be searched: its table is a whole one after the marks.
 pub record Marked (p : Puzzle) (ms ws l : List ℕ) : Type 0 where

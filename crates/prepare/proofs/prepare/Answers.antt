@@ -1,28 +1,28 @@
 -- `prepare::prepare` meets its contract. Assumes nothing.
-use Rattle.prepare.proofs.PrepareLaws.{prepare_size, prepare_open, prepare_propagable, prepare_none, prepare_marks, prepare_done}
+use Rattle.prepare.proofs.PrepareLaws.{asked, prepare_size, prepare_open, prepare_propagable, prepare_none, prepare_marks, prepare_done}
 use Rattle.prepare.proofs.prepare.Goals as goal
 
 pub fill_words-requires : goal.fill_words-requires
-fill_words-requires c = let a = c.requires in (prepare_size a, a.room)
+fill_words-requires c = let a = asked c.args.q c.requires in (prepare_size a, a.room)
 
 pub fresh-requires : goal.fresh-requires
-fresh-requires c = let a = c.requires in (a.blank, prepare_size a)
+fresh-requires c = let a = asked c.args.q c.requires in (a.blank, prepare_size a)
 
 pub open-requires : goal.open-requires
-open-requires c = prepare_open c.requires c.fill_words.ensures c.fresh.ensures
+open-requires c = prepare_open (asked c.args.q c.requires) c.fill_words.ensures c.fresh.ensures
 
 pub propagate-requires : goal.propagate-requires
-propagate-requires c = prepare_propagable c.requires c.fill_words.ensures c.fresh.ensures c.open.ensures
+propagate-requires c = prepare_propagable (asked c.args.q c.requires) c.fill_words.ensures c.fresh.ensures c.open.ensures
 
 pub returns-then-not-propagate : goal.returns-then-not-propagate
-returns-then-not-propagate c = prepare_none c.requires c.fill_words.ensures c.fresh.ensures c.open.ensures c.propagate.ensures c.if-not-propagate.true
+returns-then-not-propagate c = prepare_none (asked c.args.q c.requires) c.fill_words.ensures c.fresh.ensures c.open.ensures c.propagate.ensures c.if-not-propagate.true
 
 pub apply_marks-requires : goal.apply_marks-requires
 apply_marks-requires c =
     record {
-      lagging = prepare_marks c.requires c.fill_words.ensures c.fresh.ensures c.open.ensures c.propagate.ensures c.if-not-propagate.false;
-      accepted = c.requires.marks;
+      lagging = prepare_marks (asked c.args.q c.requires) c.fill_words.ensures c.fresh.ensures c.open.ensures c.propagate.ensures c.if-not-propagate.false;
+      accepted = c.args.q.marks_pass;
     }
 
 pub returns : goal.returns
-returns c = prepare_done c.requires c.fill_words.ensures c.fresh.ensures c.open.ensures c.propagate.ensures c.if-not-propagate.false c.apply_marks.ensures
+returns c = prepare_done (asked c.args.q c.requires) c.fill_words.ensures c.fresh.ensures c.open.ensures c.propagate.ensures c.if-not-propagate.false c.apply_marks.ensures

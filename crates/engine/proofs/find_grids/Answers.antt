@@ -1,0 +1,18 @@
+-- `engine::find_grids` meets its contract. Assumes nothing.
+use borrow.Author.Rules.{rules}
+use Rattle.fresh.proofs.FillLaws.{blank_zeros}
+use Rattle.engine.proofs.CountLaws.{question_asks}
+use Rattle.engine.proofs.SolveLaws.{found_none, found_search, found_grids}
+use Rattle.engine.proofs.find_grids.Goals as goal
+
+pub prepare-requires : goal.prepare-requires
+prepare-requires c = (search rules, blank_zeros)
+
+pub returns-then-not-prepare : goal.returns-then-not-prepare
+returns-then-not-prepare c = found_none (question_asks c.args.q) c.prepare.ensures c.if-not-prepare.true
+
+pub search-requires : goal.search-requires
+search-requires c = found_search (question_asks c.args.q) (c.prepare.ensures.marked c.if-not-prepare.false) c.requires
+
+pub returns : goal.returns
+returns c = found_grids (question_asks c.args.q) (c.prepare.ensures.marked c.if-not-prepare.false) c.search.ensures
