@@ -1,146 +1,112 @@
 -- How blocks are joined, and what is written for them. Assumes nothing.
-use Rattle.std.proofs.Common.{◌≡◌, ◌≢◌, ℕ, List, [], ◌++◌, Option, Result, Ok, Err, OnErr, refl, sym, ap, subst, ◌∙◌, append_assoc, append-nil, inl, inr, length, take, drop}
+use Rattle.std.proofs.Common.{◌≡◌, ℕ, List, [], ◌++◌, Option, Result, Ok, Err, OnOk, OnErr, IfOk, MatchResult, is_ok, sym, ap, subst, ◌∙◌, append_assoc, append-nil, inl, inr}
+use Rattle.std.proofs.lemmas.Bool.{false≢true}
 use Rattle.std.specs.Io.KnownBytes.{Appends, Consumes, IsAtEnd}
-use Rattle.std.proofs.KnownBytes.{Consumes-nil, Appends-nil, Consumes-trans, Appends-trans}
-use lib.Seq.{take-append_seam}
-use Rattle.text_rules.specs.Stream.{Streamed}
+use Rattle.std.proofs.KnownBytes.{Consumes-trans, Appends-trans}
+use Rattle.text_rules.specs.Stream.{Written, Streamed}
 use Rattle.text_stream.specs.declared.Stream.{Stream}
-use Rattle.text_stream.specs.Stream.{After, Begun, Continued, LastGiven}
-use Rattle.sheet.specs.declared.Failure.{Failure}
-use Rattle.sheet.specs.declared.Next.{Next}
-use Rattle.sheet.specs.declared.Next.TheVariants.{Read, End, Stop}
-use Rattle.sheet.specs.declared.Turn.{Turn}
-use Rattle.sheet.specs.Run.{StartsOut, CutAt, EndAt, BlockAnswered, LinesAnswered, AllAnswered, PartAnswered}
+use Rattle.text_stream.specs.Stream.{BlockFed, LastGiven}
+use Rattle.sheet.specs.Run.{StartsOut, LinesAnswered, AllAnswered, PartAnswered}
+
+-- ---- results, and the same with another error
 
 pub on_err : {A E : Type 0} (r : Result A E) {P : Type 0} → P → OnErr r P
 on_err (Ok x) p = tt
 on_err (Err e) p = p
 
--- What stands at the front of a buffer, by its length.
-pub front_text : (text : List ℕ) (n : ℕ) (out out' : List ℕ) → n ≡ length text → out' ≡ text ++ drop n out → text ≡ take n out'
-front_text text n out out' count bytes =
-    sym (take-append_seam text (drop n out)) ∙ ap (λ k. take k (text ++ drop n out)) (sym count) ∙ ap (take n) (sym bytes)
+-- The second result is the first with another error.
+pub ok_told : {A E F : Type 0} (r : Result A E) (r' : Result A F) {P Q : Type 0} → is_ok r' ≡ is_ok r → OnOk r P → (P → Q) → OnOk r' Q
+ok_told (Ok x) (Ok y) e p f = f p
+ok_told (Err e) (Ok y) q p f = absurd (false≢true (sym q))
+ok_told r (Err e) q p f = tt
 
-pub cut_nothing : (n : Next) → CutAt n []
-cut_nothing Read = refl
-cut_nothing End = refl
-cut_nothing (Stop f) = tt
+pub err_told : {A E F : Type 0} (r : Result A E) (r' : Result A F) {P Q : Type 0} → is_ok r' ≡ is_ok r → OnErr r P → (P → Q) → OnErr r' Q
+err_told (Err e) (Err e') q p f = f p
+err_told (Ok x) (Err e) q p f = absurd (false≢true q)
+err_told r (Ok y) q p f = tt
 
-pub end_not_met : (n : Next) (r : Option (List ℕ)) → n ≢ End → EndAt n r
-end_not_met Read r h = tt
-end_not_met End r h = absurd (h refl)
-end_not_met (Stop f) r h = tt
+pub was_err : {A E F : Type 0} (r : Result A E) (r' : Result A F) {f : F} {P : Type 0} → is_ok r' ≡ is_ok r → r' ≡ Err f → OnErr r P → P
+was_err (Ok x) r' q e p = absurd (false≢true (sym (ap is_ok e) ∙ q))
+was_err (Err x) r' q e p = p
 
--- No byte is read or written.
-pub block_of_none : (s : Stream) (r r' w : Option (List ℕ)) (n : Next) → Consumes r r' [] → EndAt n r'
-    → BlockAnswered s r r' w w (record { stream = s; next = n })
-block_of_none s r r' w n reads end =
-    record {
-      block = [];
-      text = [];
-      cut = [];
-      reads = reads;
-      writes = Appends-nil w;
-      carries = λ i o a. rw (append-nil i, append-nil o) a;
-      cut_at = cut_nothing n;
-      end_at = end;
-    }
+pub was_ok : {A E F : Type 0} (r : Result A E) (r' : Result A F) {x : A} {P : Type 0} → is_ok r' ≡ is_ok r → r' ≡ Ok x → OnOk r P → P
+was_ok (Ok y) r' q e p = p
+was_ok (Err y) r' q e p = absurd (false≢true (sym q ∙ ap is_ok e))
 
-pub reads_none : (r r' : Option (List ℕ)) (n : ℕ) (buf : List ℕ) → n ≡ 0 → Consumes r r' (take n buf) → Consumes r r' []
-reads_none r r' n buf none p = subst (λ k. Consumes r r' (take k buf)) none p
+pub was_value : {A E F : Type 0} (r : Result A E) (r' : Result A F) (P : A → Type 0) (Q : E → Type 0) {x : A} → MatchResult r (λ y. r' ≡ Ok y) Q
+    → is_ok r' ≡ is_ok r → r' ≡ Ok x → IfOk r P → P x
+was_value (Ok y) r' P Q {x} m q e p = let s : y ≡ x = cc in subst P s p
+was_value (Err y) r' P Q m q e p = absurd (false≢true (sym q ∙ ap is_ok e))
 
--- Of what answers a block only a beginning is written.
-pub block_cut : (s s' : Stream) (r r' w w' : Option (List ℕ)) (f : Failure) (block out out' : List ℕ) (n : ℕ) → Consumes r r' block
-    → StartsOut w w' (take n out') → ((i o : List ℕ) → After s i o → Continued s' (i ++ block) o n out out')
-    → BlockAnswered s r r' w w' (record { stream = s'; next = Stop f })
-block_cut s s' r r' w w' f block out out' n reads starts fed =
-    record {
-      block = block;
-      text = starts.text;
-      cut = starts.cut;
-      reads = reads;
-      writes = starts.writes;
-      carries = λ i o a.
-          let k = fed i o a in
-          subst (λ t. After s' (i ++ block) (o ++ t)) (front_text k.text n out out' k.put.count k.put.bytes ∙ starts.whole) k.after;
-      cut_at = tt;
-      end_at = tt;
-    }
+-- ---- the lines answered so far
 
-pub lines_of_none : (s : Stream) (r w : Option (List ℕ)) → Begun s → LinesAnswered r r w w (record { stream = s; next = Read })
-lines_of_none s r w b =
-    record {
-      input = [];
-      text = [];
-      cut = [];
-      reads = Consumes-nil r;
-      writes = Appends-nil w;
-      after = b.nothing_in;
-      cut_at = refl;
-      end_at = tt;
-    }
+module _ {r₀ r w₀ w : Option (List ℕ)} {s : Stream} (l : LinesAnswered r₀ r w₀ w s) where
+  all_read : (r' : Option (List ℕ)) → Consumes r r' [] → Consumes r₀ r' l.input
+  all_read r' reads = subst (Consumes r₀ r') (append-nil l.input) (Consumes-trans _ _ _ _ _ l.reads reads)
 
--- A block behind the blocks before it.
-pub lines_then : (s : Stream) (r r' r'' w w' w'' : Option (List ℕ)) (t : Turn) → LinesAnswered r r' w w' (record { stream = s; next = Read })
-    → BlockAnswered s r' r'' w' w'' t → LinesAnswered r r'' w w'' t
-lines_then s r r' r'' w w' w'' t l b =
-    let before : After s l.input l.text = subst (After s l.input) (ap (λ c. l.text ++ c) l.cut_at ∙ append-nil l.text) l.after in
-    record {
-      input = l.input ++ b.block;
-      text = l.text ++ b.text;
-      cut = b.cut;
-      reads = Consumes-trans r r' r'' l.input b.block l.reads b.reads;
-      writes = Appends-trans w w' w'' l.text b.text l.writes b.writes;
-      after = subst (After t.stream (l.input ++ b.block)) (sym (append_assoc l.text b.text b.cut)) (b.carries l.input l.text before);
-      cut_at = b.cut_at;
-      end_at = b.end_at;
-    }
+  -- Nothing more was read.
+  pub lines_cut : {r' : Option (List ℕ)} → Consumes r r' [] → PartAnswered r₀ r' w₀ w
+  lines_cut {r'} reads =
+      record {
+        input = l.input;
+        text = l.text;
+        cut = [];
+        reads = all_read _ reads;
+        writes = l.writes;
+        outputs = inl (l.after.left, subst (Written [] l.input l.after.left) (sym (append-nil l.text)) l.after.writes);
+      }
 
-pub lines_read : (r r' w w' : Option (List ℕ)) (t : Turn) → t.next ≡ Read → LinesAnswered r r' w w' t
-    → LinesAnswered r r' w w' (record { stream = t.stream; next = Read })
-lines_read r r' w w' t e l = subst (λ n. LinesAnswered r r' w w' (record { stream = t.stream; next = n })) e l
+  -- A block more was read, and what is written for it stands in the buffer.
+  module _ {r' : Option (List ℕ)} {s' : Stream} {block out out' : List ℕ} (reads : Consumes r r' block) (empty : out ≡ []) (fed : BlockFed s s' block out out') {w' : Option (List ℕ)} where
+    pub lines_then : Appends w w' out' → LinesAnswered r₀ r' w₀ w' s'
+    lines_then writes =
+        let k = fed.carries l.input l.text l.after in
+        let e : out' ≡ k.text = k.put ∙ ap (λ x. x ++ k.text) empty in
+        record {
+          input = l.input ++ block;
+          text = l.text ++ k.text;
+          reads = Consumes-trans _ _ _ _ _ l.reads reads;
+          writes = Appends-trans _ _ _ _ _ l.writes (subst (Appends w w') e writes);
+          after = k.after;
+        }
 
--- Where neither more is to be read nor a call failed, the input has ended.
-ended : (n : Next) (cut : List ℕ) (r : Option (List ℕ)) → n ≢ Read → ((f : Failure) → n ≢ Stop f) → CutAt n cut → EndAt n r → (cut ≡ []) × IsAtEnd r
-ended Read cut r h k c e = absurd (h refl)
-ended End cut r h k c e = (c, e)
-ended (Stop f) cut r h k c e = absurd (k f refl)
+    pub block_cut : StartsOut w w' out' → PartAnswered r₀ r' w₀ w'
+    block_cut starts =
+        let k = fed.carries l.input l.text l.after in
+        let e : k.text ≡ starts.text ++ starts.cut = sym (k.put ∙ ap (λ x. x ++ k.text) empty) ∙ starts.whole in
+        record {
+          input = l.input ++ block;
+          text = l.text ++ starts.text;
+          cut = starts.cut;
+          reads = Consumes-trans _ _ _ _ _ l.reads reads;
+          writes = Appends-trans _ _ _ _ _ l.writes starts.writes;
+          outputs = inl (k.after.left, subst (Written [] (l.input ++ block) k.after.left) (ap (λ x. l.text ++ x) e ∙ sym (append_assoc l.text starts.text starts.cut)) k.after.writes);
+        }
 
--- The end of the input, behind all lines that are ended in it.
-pub all_answered : (r r' w w' w'' : Option (List ℕ)) (t : Turn) (n : ℕ) (out out' : List ℕ) → LinesAnswered r r' w w' t → t.next ≢ Read
-    → ((f : Failure) → t.next ≢ Stop f) → LastGiven t.stream n out out' → Appends w' w'' (take n out') → AllAnswered r r' w w''
-all_answered r r' w w' w'' t n out out' l more failed given written =
-    let end = ended t.next l.cut r' more failed l.cut_at l.end_at in
-    let after : After t.stream l.input l.text = subst (After t.stream l.input) (ap (λ c. l.text ++ c) end.0 ∙ append-nil l.text) l.after in
-    let last = given.ends l.input l.text after in
-    let text = front_text last.text n out out' last.put.count last.put.bytes in
-    record {
-      input = l.input;
-      output = l.text ++ last.text;
-      reads = l.reads;
-      at_end = end.1;
-      writes = Appends-trans w w' w'' l.text last.text l.writes (subst (Appends w' w'') (sym text) written);
-      streams = last.whole;
-    }
+  -- The input has ended, and what is written for it stands in the buffer.
+  module _ {r' : Option (List ℕ)} {out out' : List ℕ} (reads : Consumes r r' []) (empty : out ≡ []) (given : LastGiven s out out') {w' : Option (List ℕ)} where
+    pub all_answered : IsAtEnd r' → Appends w w' out' → AllAnswered r₀ r' w₀ w'
+    all_answered end writes =
+        let k = given.ends l.input l.text l.after in
+        let e : out' ≡ k.text = k.put ∙ ap (λ x. x ++ k.text) empty in
+        record {
+          input = l.input;
+          output = l.text ++ k.text;
+          reads = all_read _ reads;
+          at_end = end;
+          writes = Appends-trans _ _ _ _ _ l.writes (subst (Appends w w') e writes);
+          streams = k.whole;
+        }
 
--- A call failed behind some lines.
-pub lines_cut : (r r' w w' : Option (List ℕ)) (t : Turn) → LinesAnswered r r' w w' t → PartAnswered r r' w w'
-lines_cut r r' w w' t l =
-    record { input = l.input; text = l.text; cut = l.cut; reads = l.reads; writes = l.writes; outputs = inl (l.after.left, l.after.writes) }
-
--- A write failed behind the end of the input.
-pub end_cut : (r r' w w' w'' : Option (List ℕ)) (t : Turn) (n : ℕ) (out out' : List ℕ) → LinesAnswered r r' w w' t → t.next ≢ Read
-    → ((f : Failure) → t.next ≢ Stop f) → LastGiven t.stream n out out' → StartsOut w' w'' (take n out') → PartAnswered r r' w w''
-end_cut r r' w w' w'' t n out out' l more failed given starts =
-    let end = ended t.next l.cut r' more failed l.cut_at l.end_at in
-    let after : After t.stream l.input l.text = subst (After t.stream l.input) (ap (λ c. l.text ++ c) end.0 ∙ append-nil l.text) l.after in
-    let last = given.ends l.input l.text after in
-    let text = front_text last.text n out out' last.put.count last.put.bytes ∙ starts.whole in
-    record {
-      input = l.input;
-      text = l.text ++ starts.text;
-      cut = starts.cut;
-      reads = l.reads;
-      writes = Appends-trans w w' w'' l.text starts.text l.writes starts.writes;
-      outputs = inr (subst (Streamed l.input) (ap (λ k. l.text ++ k) text ∙ sym (append_assoc l.text starts.text starts.cut)) last.whole);
-    }
+    pub end_cut : StartsOut w w' out' → PartAnswered r₀ r' w₀ w'
+    end_cut starts =
+        let k = given.ends l.input l.text l.after in
+        let e : k.text ≡ starts.text ++ starts.cut = sym (k.put ∙ ap (λ x. x ++ k.text) empty) ∙ starts.whole in
+        record {
+          input = l.input;
+          text = l.text ++ starts.text;
+          cut = starts.cut;
+          reads = all_read _ reads;
+          writes = Appends-trans _ _ _ _ _ l.writes starts.writes;
+          outputs = inr (subst (Streamed l.input) (ap (λ x. l.text ++ x) e ∙ sym (append_assoc l.text starts.text starts.cut)) k.whole);
+        }

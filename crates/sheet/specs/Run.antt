@@ -1,13 +1,10 @@
 -- What `sheet` does between a reader and a writer. The bytes that a reader has left and those that a writer holds are known or not (`None`). Assumes
 -- nothing.
-use Rattle.std.specs.Prelude.{ℕ, ◌≡◌, ◌⊎◌, List, [], ◌++◌, ⊤, Option}
+use Rattle.std.specs.Prelude.{ℕ, ◌≡◌, ◌⊎◌, List, [], ◌++◌, Option}
 use Rattle.std.specs.Io.KnownBytes.{Appends, Consumes, IsAtEnd}
 use Rattle.text_rules.specs.Stream.{Written, Streamed}
 use Rattle.text_stream.specs.declared.Stream.{Stream}
 use Rattle.text_stream.specs.Stream.{After}
-use Rattle.sheet.specs.declared.Next.{Next}
-use Rattle.sheet.specs.declared.Next.TheVariants.{Read, End, Stop}
-use Rattle.sheet.specs.declared.Turn.{Turn}
 
 -- Only a beginning of the bytes is written.
 pub record StartsOut (w w' : Option (List ℕ)) (bytes : List ℕ) : Type 0 where
@@ -16,39 +13,13 @@ pub record StartsOut (w w' : Option (List ℕ)) (bytes : List ℕ) : Type 0 wher
   pub whole : bytes ≡ text ++ cut
   pub writes : Appends w w' text
 
--- What is cut from the output, by what comes next: nothing but where a call failed.
-abbrev pub CutAt : Next → List ℕ → Type 0
-CutAt Read cut = cut ≡ []
-CutAt End cut = cut ≡ []
-CutAt (Stop f) cut = ⊤
-
--- Where the input has ended the reader has nothing left.
-abbrev pub EndAt : Next → Option (List ℕ) → Type 0
-EndAt Read r = ⊤
-EndAt End r = IsAtEnd r
-EndAt (Stop f) r = ⊤
-
--- A block is read and answered: whatever input has gone in, the block goes in behind it, and what is to be written behind the output is written.
-pub record BlockAnswered (s : Stream) (r r' w w' : Option (List ℕ)) (t : Turn) : Type 0 where
-  pub block : List ℕ
-  pub text : List ℕ
-  pub cut : List ℕ
-  pub reads : Consumes r r' block
-  pub writes : Appends w w' text
-  pub carries : (input output : List ℕ) → After s input output → After t.stream (input ++ block) (output ++ (text ++ cut))
-  pub cut_at : CutAt t.next cut
-  pub end_at : EndAt t.next r'
-
 -- The lines that end in what is read are answered.
-pub record LinesAnswered (r r' w w' : Option (List ℕ)) (t : Turn) : Type 0 where
+pub record LinesAnswered (r r' w w' : Option (List ℕ)) (s : Stream) : Type 0 where
   pub input : List ℕ
   pub text : List ℕ
-  pub cut : List ℕ
   pub reads : Consumes r r' input
   pub writes : Appends w w' text
-  pub after : After t.stream input (text ++ cut)
-  pub cut_at : CutAt t.next cut
-  pub end_at : EndAt t.next r'
+  pub after : After s input text
 
 -- The whole input is read, and its whole output is written.
 pub record AllAnswered (r r' w w' : Option (List ℕ)) : Type 0 where

@@ -3,13 +3,13 @@
 // nothing else is written.
 #![tactic(auto)]
 
-ghost use Rattle.std.specs.Prelude.{◌≡◌, ◌≢◌, ◌≤◌, length, OnOk, OnErr, IfErr};
+ghost use Rattle.std.specs.Prelude.{◌≡◌, ◌≢◌, ◌≤◌, ◌<◌, [], length, take, OnOk, OnErr, IfOk, IfErr};
 ghost use Rattle.std.specs.Io.{WritesAtMost};
 ghost use Rattle.std.specs.IoError.{error_kind};
-ghost use Rattle.std.specs.Io.KnownBytes.{Appends, WriteAppends};
-ghost use Rattle.text_stream.specs.Stream.{KeptFits};
-ghost use Rattle.sheet.specs.Run.{StartsOut, BlockAnswered, LinesAnswered, AllAnswered, PartAnswered};
+ghost use Rattle.std.specs.Io.KnownBytes.{Appends, WriteAppends, Consumes, IsAtEnd};
+ghost use Rattle.sheet.specs.Run.{StartsOut, AllAnswered, PartAnswered};
 
+use arrayvec::ArrayVec;
 use std::fmt::Write as _;
 use std::io::{ErrorKind, Read, Write};
 use std::{fmt, io};
@@ -60,21 +60,6 @@ impl fmt::Display for Failure {
     }
 }
 
-// What comes next: more input, the end of the input, or nothing, because a read or a write failed.
-#[derive(Clone, Copy)]
-enum Next {
-    Read,
-    End,
-    Stop(Failure),
-}
-
-// The stream behind what was read, and what comes next.
-#[derive(Clone, Copy)]
-struct Turn {
-    stream: Stream,
-    next: Next,
-}
-
 // Writes some of the bytes: none where a signal interrupted the write, which is to be made again.
 fn write_some<W: Write>(writer: &mut W, bytes: &[u8]) -> io::Result<usize>
     ensures within { WritesAtMost result bytes.now }
@@ -83,14 +68,8 @@ fn write_some<W: Write>(writer: &mut W, bytes: &[u8]) -> io::Result<usize>
 {
     match writer.write(bytes) {
         Ok(0) => Err(io::Error::from(ErrorKind::WriteZero)),
-        Ok(n) => Ok(n),
-        Err(e) => {
-            if e.kind() == ErrorKind::Interrupted {
-                Ok(0)
-            } else {
-                Err(e)
-            }
-        }
+        Err(e) if e.kind() == ErrorKind::Interrupted => Ok(0),
+        written => written,
     }
 }
 
@@ -110,117 +89,49 @@ fn write_out<W: Write>(writer: &mut W, bytes: &[u8]) -> io::Result<()>
     Err(io::Error::from(ErrorKind::TimedOut))
 }
 
-// Where a read failed: one that a signal interrupted is made again.
-fn after_failed_read(e: io::Error) -> Next
-    ensures no_end { result ≢ Next.End }
-    ensures again { error_kind e ≡ ErrorKind.Interrupted → result ≡ Next.Read }
-    ensures stops { error_kind e ≢ ErrorKind.Interrupted → result ≡ Next.Stop (Failure.Read e) }
+// Reads some of the input: no byte at its end. A read that a signal interrupts is made again.
+fn read_some<R: Read>(reader: &mut R, block: &mut [u8]) -> io::Result<usize>
+    requires { 0 < length block.old }
+    ensures within { IfOk result (λ n. n ≤ length block.new) }
+    ensures bytes { IfOk result (λ n. Consumes (R.remaining reader.old) (R.remaining reader.new) (take n block.new)) }
+    ensures end { IfOk result (λ n. n ≡ 0 → IsAtEnd (R.remaining reader.new)) }
+    ensures kept { OnErr result (Consumes (R.remaining reader.old) (R.remaining reader.new) []) }
 {
-    if e.kind() == ErrorKind::Interrupted {
-        Next::Read
-    } else {
-        Next::Stop(Failure::Read(e))
-    }
-}
-
-// Reads a block, and writes what answers its lines.
-fn answer_block<R: Read, W: Write>(
-    reader: &mut R,
-    writer: &mut W,
-    stream: Stream,
-    out: &mut [u8],
-) -> Turn
-    requires { KeptFits stream × (413696 ≤ length out.old) }
-    ensures fits { KeptFits result.stream }
-    ensures answers { BlockAnswered stream (R.remaining reader.old) (R.remaining reader.new)
-        (W.contents writer.old) (W.contents writer.new) result }
-{
-    let mut block = [0; 4096];
-    let got = reader.read(&mut block);
-    let n = match got {
-        Ok(n) => n,
-        Err(e) => {
-            return Turn {
-                stream,
-                next: after_failed_read(e),
-            };
-        }
-    };
-    if n == 0 {
-        return Turn {
-            stream,
-            next: Next::End,
-        };
-    }
-    let fed = stream.feed(&block[..n], out);
-    let behind = fed.stream;
-    let written = fed.written;
-    if let Err(e) = write_out(writer, &out[..written]) {
-        return Turn {
-            stream: behind,
-            next: Next::Stop(Failure::Write(e)),
-        };
-    }
-    Turn {
-        stream: behind,
-        next: Next::Read,
-    }
-}
-
-// Answers the lines of one block after the other, until the input ends or a call fails.
-fn answer_all<R: Read, W: Write>(reader: &mut R, writer: &mut W, out: &mut [u8]) -> Turn
-    requires { 413696 ≤ length out.old }
-    ensures fits { KeptFits result.stream }
-    ensures stops { result.next ≢ Next.Read }
-    ensures answers { LinesAnswered (R.remaining reader.old) (R.remaining reader.new)
-        (W.contents writer.old) (W.contents writer.new) result }
-{
-    let mut stream = Stream::new();
     for _ in 0..u64::MAX {
-        let turn = answer_block(reader, writer, stream, out);
-        let next = turn.next;
-        let Next::Read = next else {
-            return turn;
-        };
-        stream = turn.stream;
+        match reader.read(block) {
+            Err(e) if e.kind() == ErrorKind::Interrupted => {}
+            got => return got,
+        }
     }
-    Turn {
-        stream,
-        next: Next::Stop(Failure::Read(io::Error::from(ErrorKind::TimedOut))),
-    }
+    Err(io::Error::from(ErrorKind::TimedOut))
 }
 
 // Answers the whole input. Where a read or a write fails, what is written is a beginning of the answers.
-pub fn run<R: Read, W: Write>(reader: &mut R, writer: &mut W, out: &mut [u8]) -> Result<(), Failure>
-    requires { 413696 ≤ length out.old }
+pub fn run<R: Read, W: Write>(reader: &mut R, writer: &mut W) -> Result<(), Failure>
     ensures all { OnOk result (AllAnswered (R.remaining reader.old) (R.remaining reader.new)
         (W.contents writer.old) (W.contents writer.new)) }
     ensures part { OnErr result (PartAnswered (R.remaining reader.old) (R.remaining reader.new)
         (W.contents writer.old) (W.contents writer.new)) }
 {
-    let turn = answer_all(reader, writer, out);
-    let next = turn.next;
-    if let Next::Stop(failure) = next {
-        return Err(failure);
+    let mut stream = Stream::new();
+    let mut block = [0; 4096];
+    // At most 101 bytes for each byte of a block.
+    let mut out = ArrayVec::<u8, 413696>::new();
+    for _ in 0..u64::MAX {
+        let n = read_some(reader, &mut block).map_err(Failure::Read)?;
+        out.clear();
+        if n == 0 {
+            stream.end(&mut out);
+            return write_out(writer, &out).map_err(Failure::Write);
+        }
+        stream.feed(&block[..n], &mut out);
+        write_out(writer, &out).map_err(Failure::Write)?;
     }
-    let stream = turn.stream;
-    let n = stream.end(out);
-    match write_out(writer, &out[..n]) {
-        Ok(()) => Ok(()),
-        Err(e) => Err(Failure::Write(e)),
-    }
-}
-
-// Room for what answers a block of 4,096 bytes: at most 101 bytes for each of them.
-fn room() -> [u8; 413696]
-    ensures { 413696 ≡ length result }
-{
-    [0; 413696]
+    Err(Failure::Read(io::Error::from(ErrorKind::TimedOut)))
 }
 
 fn main(rt: HostRuntime) {
-    let mut out = room();
-    if let Err(failure) = run(&mut rt.stdin(), &mut rt.stdout(), &mut out) {
+    if let Err(failure) = run(&mut rt.stdin(), &mut rt.stdout()) {
         // Where this write fails too, nothing is left to tell it by.
         let _ = rt.eprintln(failure);
     }

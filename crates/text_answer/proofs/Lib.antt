@@ -1,3 +1,2 @@
--- What the proofs of several functions use.
-pub mod PutLaws
-mod RowLaws
+-- What the proofs of several functions, and of other crates, use.
+pub mod RowLaws

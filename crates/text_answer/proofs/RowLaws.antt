@@ -1,27 +1,25 @@
--- A grid that is written row by row. Assumes nothing.
-use Prim.Native.Nat.{ℕ, zero, suc, ◌+◌, ◌-◌, ◌*◌, ◌≤◌, ◌<◌}
-use mathlib.Core.Path.{◌≡◌, refl, sym, ap, ap₂, ◌∙◌}
-use mathlib.Core.Bool.{Bool, true, false, cond}
-use mathlib.Core.List.{List, [], ◌∷◌, ◌++◌, map, append_assoc}
-use native.Mathlib.Omega.{arith}
+-- The text of a grid, row by row. Assumes nothing.
+use Rattle.std.proofs.Common.{ℕ, zero, suc, ◌+◌, ◌-◌, ◌*◌, ◌≤◌, ◌<◌, ◌≡◌, refl, sym, ap, ◌∙◌, Bool, true, false, cond, List, [], ◌∷◌, ◌++◌, map, append_assoc, append-nil, length, get_or, take, drop, length-append, length-drop, arith, add-one}
+use mathlib.Core.Path.{ap₂}
 use native.Mathlib.Nat.{mul-le-mul, mul-le-mul_right}
-use native.Mathlib.Numerals.{add-one}
 use lib.Dec.{eqb}
-use lib.ListN.{length, get_or, take, drop, length-take, length-drop, length-map, take-append-drop}
+use lib.ListN.{length-take, length-map, take-append-drop}
 use lib.Seq.{take-suc, get_or-drop}
-use borrow.Author.Tests.{eq-eqb, ne_eqb}
+use borrow.Author.Tests.{ne_eqb}
 use Rattle.tally.specs.Tally.{all, span}
-use Rattle.tally.proofs.TallyLaws.{and_left, and_right, all_append}
+use Rattle.tally.proofs.TallyLaws.{and_left, and_right, all_append, span_length}
 use Rattle.rules.specs.Grid.{cell, row}
 use Rattle.rules.proofs.StridedLaws.{map_next}
 use Rattle.text_rules.specs.Text.{cell_text, joined, grid_text}
-use Rattle.text_answer.specs.Put.{Put, shown, led, CellsAsk, RowAsk, GridAsk}
-use Rattle.text_answer.proofs.PutLaws.{put_none, put_both}
+use Rattle.text_answer.specs.Shown.{Shown, shown, led, RowAsk, GridAsk}
 
--- ---- a part of a list
+-- ---- cells that have a text
 
-part_long : (k : ℕ) (l : List ℕ) → length (take (length l - k) (drop k l)) ≡ length l - k
-part_long k l = length-take (length l - k) (drop k l) ∙ omega (arith, length-drop k l)
+pub cell_shown : (row : List ℕ) (i : ℕ) → i < length row → all shown row ≡ true → Shown (get_or row i 0)
+unfolding all
+cell_shown [] i h t = absurd (omega arith)
+cell_shown (c ∷ row) zero h t = and_left (shown c) (all shown row) t
+cell_shown (c ∷ row) (suc i) h t = cell_shown row i (omega arith) (and_right (shown c) (all shown row) t)
 
 all_part : (q : ℕ → Bool) (k a : ℕ) (l : List ℕ) → all q l ≡ true → all q (take k (drop a l)) ≡ true
 all_part q k a l t =
@@ -39,25 +37,6 @@ row_part g a (suc k) h =
     ∙ map_next (λ c. get_or g (a + c) 0) k
     ∙ ap₂ ◌++◌ (row_part g a k (omega arith)) (ap (λ x. x ∷ []) (sym (get_or-drop a g k 0)))
     ∙ sym (take-suc (drop a g) k 0 (omega arith))
-
--- ---- a row behind its separator
-
-pub row_first : {r : ℕ} {t : List ℕ} {k : ℕ} {out l : List ℕ} → r ≡ 0 → Put t k out l → Put (led r t) k out l
-unfolding led
-row_first {r} e w = rw (eq-eqb r 0 e) w
-
-pub row_later : {r : ℕ} {t : List ℕ} {k m : ℕ} {out l ys : List ℕ} → (r ≡ 0 → ⊥) → Put (47 ∷ []) k out l → Put t m (take (length l - k) (drop k l)) ys →
-    Put (led r t) (k + m) out (take k l ++ (ys ++ drop (length l - k) (drop k l)))
-unfolding led
-row_later {r} e v w = rw (ne_eqb r 0 e) (put_both v w)
-
--- room for the cells
-pub row_cells : {t : List ℕ} {room : ℕ} → RowAsk t room → CellsAsk t room
-row_cells a = record { cells = a.cells; fits = omega (arith, a.fits) }
-
-pub row_cells_later : {t : List ℕ} {k : ℕ} {out l : List ℕ} → RowAsk t (length out) → Put (47 ∷ []) k out l →
-    CellsAsk t (length (take (length l - k) (drop k l)))
-row_cells_later {t} {k} {out} {l} a v = record { cells = a.cells; fits = rw (part_long k l) (omega (arith, a.fits, v.count, v.size)) }
 
 -- ---- the rows
 
@@ -83,25 +62,36 @@ led_long r t = elim (eqb r 0) as (λ b. length (cond b t (47 ∷ t)) ≤ length 
 abbrev pub row_text : ℕ → List ℕ → ℕ → List ℕ
 row_text n g r = map cell_text (row n g r)
 
--- The first r rows are written.
-pub record RowsPut (n : ℕ) (g out l : List ℕ) (at r : ℕ) : Type 0 where
-  pub put : Put (joined (map (row_text n g) (span 0 r))) at out l
-  pub short : at ≤ 10 * r
-  pub low : r ≤ n
+-- The rows in front of a row, joined, are at most 10 bytes a row.
+joined_short : (n : ℕ) (g : List ℕ) (r : ℕ) → n ≤ 9 → length (joined (map (row_text n g) (span 0 r))) ≤ 10 * r
+unfolding joined span row
+joined_short n g zero h = omega arith
+joined_short n g (suc r) h =
+    let long : length (row_text n g r) ≡ n = length-map (row n g r) cell_text ∙ length-map (span 0 n) (λ c. cell n g r c) ∙ span_length 0 n in
+    let next = ap (λ k. joined (map (row_text n g) (span 0 k))) (sym (add-one r)) ∙ joined_next (row_text n g) r in
+    omega (arith, ap length next, length-append (joined (map (row_text n g) (span 0 r))) (led r (row_text n g r)), joined_short n g r h, led_long r (row_text n g r), long)
 
-pub rows_start : (n : ℕ) (g out : List ℕ) → RowsPut n g out out 0 0
-unfolding joined span
-rows_start n g out = record { put = put_none out; short = omega arith; low = omega arith }
-
-pub rows_end : {n : ℕ} {g out l : List ℕ} {at r : ℕ} → RowsPut n g out l at r → n ≤ r → Put (grid_text n g) at out l
+pub grid_short : (n : ℕ) (g : List ℕ) → n ≤ 9 → length (grid_text n g) ≤ 90
 unfolding grid_text
-rows_end {n} {g} {out} {l} {at} {r} w h = let e : r ≡ n = omega (arith, w.low) in rw e at w.put
+grid_short n g h = omega (arith, joined_short n g n h)
+
+-- The first r rows are written behind what the buffer held.
+pub record RowsPut (n : ℕ) (g out l : List ℕ) (r : ℕ) : Type 0 where
+  pub put : l ≡ out ++ joined (map (row_text n g) (span 0 r))
+
+pub rows_start : (n : ℕ) (g out : List ℕ) → RowsPut n g out out 0
+unfolding joined span
+rows_start n g out = record { put = sym (append-nil out) }
+
+pub rows_end : {n : ℕ} {g out l : List ℕ} → RowsPut n g out l n → l ≡ out ++ grid_text n g
+unfolding grid_text
+rows_end w = w.put
 
 module _ {n : ℕ} {g : List ℕ} {room : ℕ} (a : GridAsk n g room) {r : ℕ} (h : r < n) where
   pub row_within : (r * n + n ≤ length g) × (length g ≤ 81)
   row_within = omega (arith, a.square, mul-le-mul_right n h, mul-le-mul a.size a.size)
 
-module _ {n : ℕ} {g out l : List ℕ} {at r : ℕ} (a : GridAsk n g (length out)) (w : RowsPut n g out l at r) (h : r < n) where
+module _ {n : ℕ} {g out l : List ℕ} {r room : ℕ} (a : GridAsk n g room) (w : RowsPut n g out l r) (h : r < n) where
   abbrev cells : List ℕ
   cells = take (r * n + n - r * n) (drop (r * n) g)
 
@@ -113,20 +103,15 @@ module _ {n : ℕ} {g out l : List ℕ} {at r : ℕ} (a : GridAsk n g (length ou
   unfolding row cell
   row_is = let e : n ≡ r * n + n - r * n = omega arith in row_part g (r * n) n (row_within a h).0 ∙ ap (λ k. take k (drop (r * n) g)) e
 
-  pub row_ask : RowAsk cells (length (take (length l - at) (drop at l)))
-  row_ask =
+  pub row_ask : (capacity : ℕ) → room ≡ capacity - length out → RowAsk cells (capacity - length l)
+  row_ask capacity e =
       record {
         cells = all_part shown (r * n + n - r * n) (r * n) g a.cells;
-        fits = rw (part_long at l) (omega (arith, cells_long, w.short, w.put.size, a.size, a.fits));
+        fits = omega (arith, cells_long, ap length w.put, length-append out (joined (map (row_text n g) (span 0 r))), joined_short n g r a.size, a.size, a.fits);
       }
 
-  pub rows_next : {k : ℕ} {ys : List ℕ} → Put (led r (map cell_text cells)) k (take (length l - at) (drop at l)) ys →
-      RowsPut n g out (take at l ++ (ys ++ drop (length l - at) (drop at l))) (at + k) (r + 1)
-  rows_next {k} {ys} v =
+  pub rows_next : {l' : List ℕ} → l' ≡ l ++ led r (map cell_text cells) → RowsPut n g out l' (r + 1)
+  rows_next {l'} v =
       let e : joined (map (row_text n g) (span 0 (r + 1))) ≡ joined (map (row_text n g) (span 0 r)) ++ led r (map cell_text cells) =
       joined_next (row_text n g) r ∙ ap (λ t. joined (map (row_text n g) (span 0 r)) ++ led r (map cell_text t)) row_is in
-      record {
-        put = rw e (put_both w.put v);
-        short = omega (arith, v.count, led_long r (map cell_text cells), length-map cells cell_text, cells_long, w.short, a.size);
-        low = omega arith;
-      }
+      record { put = v ∙ ap (λ t. t ++ led r (map cell_text cells)) w.put ∙ append_assoc out _ _ ∙ ap (λ t. out ++ t) (sym e) }

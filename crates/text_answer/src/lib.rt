@@ -1,100 +1,96 @@
-// The text of an answer of `sheet`, written to the front of a buffer.
+// The text of an answer of `sheet`, appended to what a buffer holds. Nothing is written by `write!`: `fmt::Write` promises the bytes only where it
+// succeeds, and never that it does.
 #![tactic(auto)]
 
-ghost use Rattle.std.specs.Prelude.{◌≡◌, ◌++◌, map, ◌≤◌, length};
+ghost use Rattle.std.specs.Prelude.{◌≡◌, ◌+◌, ◌-◌, ◌≤◌, ◌++◌, map, length};
+ghost use Rattle.arrayvec.specs.ArrayVec.{array_vec_len};
 ghost use Rattle.text_rules.specs.Text.{refused_word, number_text, cell_text, grid_text};
-ghost use Rattle.text_answer.specs.Put.{Put, Shown, led, CellsAsk, RowAsk, GridAsk, SolvedAsk};
+ghost use Rattle.text_answer.specs.Shown.{Shown, led, CellsAsk, RowAsk, GridAsk, SolvedAsk};
 
-// Writes a text to the front, and gives its length.
-pub fn write_text(text: &[u8], out: &mut [u8]) -> usize
-    requires { length text.now ≤ length out.old }
-    ensures { Put text.now result out.old out.new }
+use arrayvec::ArrayVec;
+
+// A text.
+pub fn write_text<const N: usize>(text: &[u8], out: &mut ArrayVec<u8, N>)
+    requires { array_vec_len out.old + length text.now ≤ N }
+    ensures { out.new.items ≡ out.old.items ++ text.now }
 {
-    let mut i = 0;
-    while i < text.len() {
-        out[i] = text[i];
-        i += 1;
-    }
-    i
+    out.try_extend_from_slice(text).unwrap();
 }
 
 // A refusal number in decimal.
-fn write_number(k: u8, out: &mut [u8]) -> usize
-    requires { 2 ≤ length out.old }
-    ensures { Put (number_text k) result out.old out.new }
+#[tactic(auto, unfolding(text_rules::specs::Text::number_text))]
+fn write_number<const N: usize>(k: u8, out: &mut ArrayVec<u8, N>)
+    requires { array_vec_len out.old + 2 ≤ N }
+    ensures { out.new.items ≡ out.old.items ++ number_text k }
 {
     if k < 10 {
-        let digit = [48 + k];
-        return write_text(&digit, out);
+        out.push(b'0' + k);
+    } else {
+        write_text(&[b'0' + k / 10, b'0' + k % 10], out);
     }
-    let digits = [48 + k / 10, 48 + k % 10];
-    write_text(&digits, out)
 }
 
 // The text of a refusal.
-pub fn write_refused(k: u8, out: &mut [u8]) -> usize
-    requires { 10 ≤ length out.old }
-    ensures { Put (refused_word ++ number_text k) result out.old out.new }
+pub fn write_refused<const N: usize>(k: u8, out: &mut ArrayVec<u8, N>)
+    requires { array_vec_len out.old + 10 ≤ N }
+    ensures { out.new.items ≡ out.old.items ++ (refused_word ++ number_text k) }
 {
-    let at = write_text(b"refused ", out);
-    at + write_number(k, &mut out[at..])
+    write_text(b"refused ", out);
+    write_number(k, out);
 }
 
 // A black cell or a digit.
+#[tactic(auto, unfolding(text_rules::specs::Text::cell_text))]
 fn cell_byte(c: u8) -> u8
     requires { Shown c }
     ensures { result ≡ cell_text c }
 {
-    if c == 255 { b'#' } else { 48 + c }
+    if c == 255 { b'#' } else { b'0' + c }
 }
 
 // The cells of a row.
-fn write_cells(row: &[u8], out: &mut [u8]) -> usize
-    requires { CellsAsk row.now (length out.old) }
-    ensures { Put (map cell_text row.now) result out.old out.new }
+fn write_cells<const N: usize>(row: &[u8], out: &mut ArrayVec<u8, N>)
+    requires { CellsAsk row.now (N - array_vec_len out.old) }
+    ensures { out.new.items ≡ out.old.items ++ map cell_text row.now }
 {
-    let mut i = 0;
-    while i < row.len() {
-        out[i] = cell_byte(row[i]);
-        i += 1;
+    for c in row {
+        out.push(cell_byte(*c));
     }
-    i
 }
 
 // Row r, behind a separator if it is not the first.
-fn write_row(r: usize, row: &[u8], out: &mut [u8]) -> usize
-    requires { RowAsk row.now (length out.old) }
-    ensures { Put (led r (map cell_text row.now)) result out.old out.new }
+#[tactic(auto, unfolding(crate::specs::Shown::led))]
+fn write_row<const N: usize>(r: usize, row: &[u8], out: &mut ArrayVec<u8, N>)
+    requires { RowAsk row.now (N - array_vec_len out.old) }
+    ensures { out.new.items ≡ out.old.items ++ led r (map cell_text row.now) }
 {
-    if r == 0 {
-        return write_cells(row, out);
+    if r > 0 {
+        out.push(b'/');
     }
-    let at = write_text(b"/", out);
-    at + write_cells(row, &mut out[at..])
+    write_cells(row, out);
 }
 
 // The rows of a grid.
-fn write_grid(n: usize, cells: &[u8], out: &mut [u8]) -> usize
-    requires { GridAsk n cells.now (length out.old) }
-    ensures { Put (grid_text n cells.now) result out.old out.new }
+fn write_grid<const N: usize>(n: usize, cells: &[u8], out: &mut ArrayVec<u8, N>)
+    requires { GridAsk n cells.now (N - array_vec_len out.old) }
+    ensures { out.new.items ≡ out.old.items ++ grid_text n cells.now }
 {
-    let mut at = 0;
-    let mut r = 0;
-    while r < n {
+    for r in 0..n {
         let start = r * n;
-        let end = start + n;
-        let k = write_row(r, &cells[start..end], &mut out[at..]);
-        at += k;
-        r += 1;
+        write_row(r, &cells[start..start + n], out);
     }
-    at
 }
 
 // A verdict with its grid.
-pub fn write_solved(verdict: &[u8], n: usize, cells: &[u8], out: &mut [u8]) -> usize
-    requires { SolvedAsk (length verdict.now) n cells.now (length out.old) }
-    ensures { Put (verdict.now ++ grid_text n cells.now) result out.old out.new }
+pub fn write_solved<const N: usize>(
+    verdict: &[u8],
+    n: usize,
+    cells: &[u8],
+    out: &mut ArrayVec<u8, N>,
+)
+    requires { SolvedAsk (length verdict.now) n cells.now (N - array_vec_len out.old) }
+    ensures { out.new.items ≡ out.old.items ++ (verdict.now ++ grid_text n cells.now) }
 {
-    let at = write_text(verdict, out);
-    at + write_grid(n, cells, &mut out[at..])
+    write_text(verdict, out);
+    write_grid(n, cells, out);
 }

@@ -16,9 +16,8 @@ use Rattle.rules.specs.Number.{number, verdict_of}
 use Rattle.rules.specs.Grid.{puzzle}
 use Rattle.text_rules.specs.Fields.{fields, in_first, value, well_formed, size_of, puzzle_from, number_checks, numbers, line_checks}
 use Rattle.text_rules.specs.Text.{refused_word, number_text, answer_text}
-use Rattle.text_rules.specs.Answered.{Answered}
-use Rattle.text_answer.specs.Put.{Put}
-use Rattle.text_line.specs.Line.{LineGiven, TargetsAsk, PuzzleText, NumbersAsk, NumbersText}
+use Rattle.std.specs.Prelude.{Ok}
+use Rattle.text_line.specs.Line.{LineText, LineGiven, TargetsAsk, PuzzleText, NumbersAsk, NumbersText}
 use Rattle.text_line.proofs.PuzzleTextLaws.{front_long}
 
 -- ---- the numbers
@@ -35,21 +34,21 @@ checks_same ns h =
     plain ∙ sym (hall_puzzle (puzzle_from ns))
 
 module _ {ns : List ℕ} {n : ℕ} (e : n ≡ get_or ns 0 0) where
-  refused_text : {r : ℕ} {out l : List ℕ} (k : ℕ) → refusal (number_checks ns) ≡ suc k → Put (refused_word ++ number_text (suc k)) r out l → NumbersText ns r out l
+  refused_text : {out l : List ℕ} (k : ℕ) → refusal (number_checks ns) ≡ suc k → l ≡ out ++ (refused_word ++ number_text (suc k)) → NumbersText ns out l
   unfolding answer_text
-  refused_text {r} {out} {l} k q w =
+  refused_text {out} {l} k q w =
       record {
         grid = [];
         solves = λ z. absurd (omega arith);
-        put = subst (λ x. Put (answer_text x (verdict_of (number (puzzle_from ns) [])) (size_of ns) []) r out l) (sym q) w;
+        put = w ∙ ap (λ x. out ++ answer_text x (verdict_of (number (puzzle_from ns) [])) (size_of ns) []) (sym q);
       }
 
-  pub numbers_1 : {r : ℕ} {out l : List ℕ} → size_fits n ≡ false → Put (refused_word ++ number_text 1) r out l → NumbersText ns r out l
+  pub numbers_1 : {out l : List ℕ} → size_fits n ≡ false → l ≡ out ++ (refused_word ++ number_text 1) → NumbersText ns out l
   unfolding refusal checked number_checks
   numbers_1 s w = refused_text 0 (rw (← e, s)) w
 
   module _ {room : ℕ} (a : NumbersAsk ns room) (s : size_fits n ≡ true) where
-    pub numbers_2 : {r : ℕ} {out l : List ℕ} → (length ns ≡ 2 * n + 1 → ⊥) → Put (refused_word ++ number_text 2) r out l → NumbersText ns r out l
+    pub numbers_2 : {out l : List ℕ} → (length ns ≡ 2 * n + 1 → ⊥) → l ≡ out ++ (refused_word ++ number_text 2) → NumbersText ns out l
     unfolding refusal checked number_checks
     numbers_2 h w =
         refused_text 1 (rw (← e, s, ne_eqb (length (drop 1 ns)) (2 * n) (λ q. h (omega (arith, length-drop 1 ns, a.some))))) w
@@ -66,22 +65,19 @@ module _ {ns : List ℕ} {n : ℕ} (e : n ≡ get_or ns 0 0) where
       puzzle_same =
           ap (λ t. puzzle n (take n t) (drop n t)) targets_same ∙ ap (λ m. puzzle m (take m (drop 1 ns)) (drop m (drop 1 ns))) e
 
-      pub numbers_text : {r : ℕ} {out l : List ℕ} →
-          PuzzleText (puzzle n (take n (take (length ns - 1) (drop 1 ns))) (drop n (take (length ns - 1) (drop 1 ns)))) r out l → NumbersText ns r out l
+      pub numbers_text : {out l : List ℕ} →
+          PuzzleText (puzzle n (take n (take (length ns - 1) (drop 1 ns))) (drop n (take (length ns - 1) (drop 1 ns)))) out l → NumbersText ns out l
       unfolding puzzle_from
-      numbers_text {r} {out} {l} w =
-          let v : PuzzleText (puzzle_from ns) r out l = subst (λ p. PuzzleText p r out l) puzzle_same w in
+      numbers_text {out} {l} w =
+          let v : PuzzleText (puzzle_from ns) out l = subst (λ p. PuzzleText p out l) puzzle_same w in
           let c = checks_same ns (omega (arith, length-drop 1 ns, e)) in
           record {
             grid = v.grid;
             solves = λ z. v.solves (sym c ∙ z);
-            put = subst (λ x. Put (answer_text x (verdict_of (number (puzzle_from ns) [])) (size_of ns) v.grid) r out l) (sym c) v.put;
+            put = v.put ∙ ap (λ x. out ++ answer_text x (verdict_of (number (puzzle_from ns) [])) (size_of ns) v.grid) (sym c);
           }
 
 -- ---- the line
-
-pub line_short : (line out : List ℕ) → length out < 100 → LineGiven line 0 out out
-line_short line out h = record { short = λ _. (refl, refl); answered = λ g. absurd (omega arith) }
 
 -- a line has at least one field
 some_number : (line : List ℕ) → 0 < length (numbers line)
@@ -96,17 +92,21 @@ some_number (b ∷ line) = elim (eqb b 32) as (λ t. 0 < length (map value (cond
 pub line_ask : (line ns : List ℕ) {room : ℕ} → ns ≡ numbers line → 100 ≤ room → NumbersAsk ns room
 line_ask line ns e h = record { some = rw e (some_number line); fits = omega arith }
 
-module _ {line : List ℕ} {r : ℕ} {out l : List ℕ} (h : 100 ≤ length out) where
-  given : (text : List ℕ) → Answered line text → Put text r out l → LineGiven line r out l
-  given text a p = record { short = λ g. absurd (omega arith); answered = λ _. record { text = text; answers = a; put = p } }
+module _ {line out l : List ℕ} where
+  pub given : {E : Type 0} {room : ℕ} → 100 ≤ room → LineText line out l → LineGiven {E = E} line room (Ok (tt {0})) out l
+  given h t = record { short = λ g. absurd (omega arith); answered = λ _. (refl, t) }
 
-  pub line_11 : well_formed line ≡ false → Put (refused_word ++ number_text 11) r out l → LineGiven line r out l
+  pub line_11 : well_formed line ≡ false → l ≡ out ++ (refused_word ++ number_text 11) → LineText line out l
   unfolding refusal checked line_checks answer_text
   line_11 e p =
-      given (refused_word ++ number_text 11) (record { grid = []; solves = λ q. absurd (omega (arith, rw e at q)); text_is = rw e }) p
+      record {
+        text = refused_word ++ number_text 11;
+        answers = record { grid = []; solves = λ q. absurd (omega (arith, rw e at q)); text_is = rw e };
+        put = p;
+      }
 
-  pub line_numbers : (ns : List ℕ) → (well_formed line ≡ true) × (ns ≡ numbers line) → NumbersText ns r out l → LineGiven line r out l
+  pub line_numbers : (ns : List ℕ) → (well_formed line ≡ true) × (ns ≡ numbers line) → NumbersText ns out l → LineText line out l
   unfolding refusal checked line_checks puzzle_from
   line_numbers ns e t =
-      let v : NumbersText (numbers line) r out l = subst (λ ns. NumbersText ns r out l) e.1 t in
-      given _ (record { grid = v.grid; solves = λ q. v.solves (rw e.0 at q); text_is = rw e.0 }) v.put
+      let v : NumbersText (numbers line) out l = subst (λ ns. NumbersText ns out l) e.1 t in
+      record { text = _; answers = record { grid = v.grid; solves = λ q. v.solves (rw e.0 at q); text_is = rw e.0 }; put = v.put }

@@ -25,7 +25,7 @@ use Rattle.rules.proofs.SizeLaws.{size_in}
 use Rattle.engine.specs.declared.Verdict.{Verdict}
 use Rattle.engine.specs.Answer.{verdict_on, solve_answer, SolveWritten}
 use Rattle.text_rules.specs.Text.{refused_word, number_text, answer_text}
-use Rattle.text_answer.specs.Put.{Put, shown, SolvedAsk}
+use Rattle.text_answer.specs.Shown.{shown, SolvedAsk}
 use Rattle.text_line.specs.Line.{solved_text, shows_grid, AnswerAsk, SolveTargetsAsk, TargetsAsk, PuzzleText}
 
 -- ---- the text of an answer
@@ -34,8 +34,8 @@ pub answer_ask : {a b : Result Verdict Refusal} {n : ℕ} {g : List ℕ} {room :
 answer_ask w e s k h =
     record { size = w.size; square = w.square; cells = w.cells (ap shows_grid e ∙ s); fits = omega (arith, w.fits) }
 
-pub answer_put : {a b : Result Verdict Refusal} {r : ℕ} {out l : List ℕ} (n : ℕ) (g : List ℕ) → a ≡ b → Put (solved_text b n g) r out l → Put (solved_text a n g) r out l
-answer_put n g e w = rw e w
+pub answer_put : {a b : Result Verdict Refusal} {l : List ℕ} (out : List ℕ) (n : ℕ) (g : List ℕ) → a ≡ b → l ≡ out ++ solved_text b n g → l ≡ out ++ solved_text a n g
+answer_put out n g e w = rw e w
 
 -- ---- the cells of a solution have a text
 
@@ -105,13 +105,13 @@ module _ {n : ℕ} {ts : List ℕ} {room : ℕ} {answer : Result Verdict Refusal
         fits = a.fits;
       }
 
-  pub solve_text : {r : ℕ} {out l : List ℕ} → Put (solved_text answer n cells') r out l → PuzzleText (puzzle n (take n ts) (drop n ts)) r out l
+  pub solve_text : {out l : List ℕ} → l ≡ out ++ solved_text answer n cells' → PuzzleText (puzzle n (take n ts) (drop n ts)) out l
   unfolding refusal
-  solve_text {r} {out} {l} w =
+  solve_text {out} {l} w =
       let e : solved_text answer n cells' ≡ answer_text (refusal (puzzle_checks hall p)) (verdict_of (number p [])) n cells' =
       ap (λ x. solved_text x n cells') is ∙ text_same (checked (puzzle_checks hall p)) (number p []) n cells' in
-      let t : PuzzleText p r out l = record { grid = cells'; solves = solution; put = subst (λ x. Put x r out l) e w } in
-      subst (λ q. PuzzleText q r out l) same t
+      let t : PuzzleText p out l = record { grid = cells'; solves = solution; put = w ∙ ap (λ x. out ++ x) e } in
+      subst (λ q. PuzzleText q out l) same t
 
 -- ---- what the calls ask
 

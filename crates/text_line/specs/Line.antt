@@ -1,5 +1,5 @@
 -- What the answer to a line gives, and what its steps ask and give. Assumes nothing.
-use Rattle.std.specs.Prelude.{ℕ, ◌*◌, ◌≤◌, ◌<◌, ◌≡◌, Bool, true, false, List, [], ◌++◌, length, Result, Ok, Err}
+use Rattle.std.specs.Prelude.{ℕ, ◌*◌, ◌≤◌, ◌<◌, ◌≡◌, Bool, true, false, List, [], ◌++◌, length, Result, Ok, Err, IsOk, IsErr}
 use Rattle.tally.specs.Tally.{all}
 use Rattle.refusal.specs.declared.Refusal.{Refusal}
 use Rattle.refusal.specs.Number.{refusal_number}
@@ -13,18 +13,18 @@ use Rattle.engine.specs.declared.Verdict.TheVariants.{Unsolvable, Unique, Multip
 use Rattle.text_rules.specs.Fields.{size_of, puzzle_from, number_checks}
 use Rattle.text_rules.specs.Text.{refused_word, unsolvable_word, unique_word, multiple_word, number_text, grid_text, answer_text}
 use Rattle.text_rules.specs.Answered.{Answered}
-use Rattle.text_answer.specs.Put.{Put, shown}
+use Rattle.text_answer.specs.Shown.{shown}
 
--- A text that answers the line stands at the front.
-pub record LineText (line : List ℕ) (counted : ℕ) (out out' : List ℕ) : Type 0 where
+-- A text that answers the line is appended.
+pub record LineText (line out out' : List ℕ) : Type 0 where
   pub text : List ℕ
   pub answers : Answered line text
-  pub put : Put text counted out out'
+  pub put : out' ≡ out ++ text
 
--- A buffer of at least 100 bytes gets the text that answers the line; a shorter one stays as it was, and the answer is 0.
-pub record LineGiven (line : List ℕ) (counted : ℕ) (out out' : List ℕ) : Type 0 where
-  pub short : length out < 100 → (counted ≡ 0) × (out' ≡ out)
-  pub answered : 100 ≤ length out → LineText line counted out out'
+-- A buffer with room for 100 bytes gets the text that answers the line; one with less stays as it was, and this is told.
+pub record LineGiven {T E : Type 0} (line : List ℕ) (room : ℕ) (told : Result T E) (out out' : List ℕ) : Type 0 where
+  pub short : room < 100 → IsErr told × (out' ≡ out)
+  pub answered : 100 ≤ room → IsOk told × LineText line out out'
 
 -- ---- the steps
 
@@ -62,19 +62,19 @@ pub record TargetsAsk (n : ℕ) (targets : List ℕ) (room : ℕ) : Type 0 where
   pub long : length targets ≡ 2 * n
   pub fits : 99 ≤ room
 
--- A text that answers the puzzle stands at the front.
-pub record PuzzleText (p : Puzzle) (counted : ℕ) (out out' : List ℕ) : Type 0 where
+-- A text that answers the puzzle is appended.
+pub record PuzzleText (p : Puzzle) (out out' : List ℕ) : Type 0 where
   pub grid : List ℕ
   pub solves : refusal (puzzle_checks hall p) ≡ 0 → 0 < number p [] → Solution p [] grid
-  pub put : Put (answer_text (refusal (puzzle_checks hall p)) (verdict_of (number p [])) p.size grid) counted out out'
+  pub put : out' ≡ out ++ answer_text (refusal (puzzle_checks hall p)) (verdict_of (number p [])) p.size grid
 
 -- At least one number, and room.
 pub record NumbersAsk (ns : List ℕ) (room : ℕ) : Type 0 where
   pub some : 0 < length ns
   pub fits : 99 ≤ room
 
--- A text that answers the numbers of a line stands at the front.
-pub record NumbersText (ns : List ℕ) (counted : ℕ) (out out' : List ℕ) : Type 0 where
+-- A text that answers the numbers of a line is appended.
+pub record NumbersText (ns out out' : List ℕ) : Type 0 where
   pub grid : List ℕ
   pub solves : refusal (number_checks ns) ≡ 0 → 0 < number (puzzle_from ns) [] → Solution (puzzle_from ns) [] grid
-  pub put : Put (answer_text (refusal (number_checks ns)) (verdict_of (number (puzzle_from ns) [])) (size_of ns) grid) counted out out'
+  pub put : out' ≡ out ++ answer_text (refusal (number_checks ns)) (verdict_of (number (puzzle_from ns) [])) (size_of ns) grid

@@ -1,12 +1,12 @@
 // The answer to one line of `sheet`.
 #![tactic(auto)]
 
-ghost use Rattle.std.specs.Prelude.{length, take, drop};
-ghost use Rattle.text_answer.specs.Put.{Put};
+ghost use Rattle.std.specs.Prelude.{◌≡◌, ◌-◌, ◌++◌, length, take, drop};
+ghost use Rattle.arrayvec.specs.ArrayVec.{array_vec_len};
 ghost use Rattle.rules.specs.Grid.{puzzle};
 ghost use Rattle.text_line.specs.Line.{LineGiven, solved_text, AnswerAsk, SolveTargetsAsk, TargetsAsk, NumbersAsk, PuzzleText, NumbersText};
 
-use arrayvec::ArrayVec;
+use arrayvec::{ArrayVec, CapacityError};
 use engine::{Verdict, solve};
 use puzzle::size_fits;
 use refusal::Refusal;
@@ -15,9 +15,14 @@ use text_numbers::read_numbers;
 use units::Unit;
 
 // The text of an answer of Solve.
-fn write_answer(answer: Result<Verdict, Refusal>, n: usize, cells: &[u8], out: &mut [u8]) -> usize
-    requires { AnswerAsk answer n cells.now (length out.old) }
-    ensures { Put (solved_text answer n cells.now) result out.old out.new }
+fn write_answer<const N: usize>(
+    answer: Result<Verdict, Refusal>,
+    n: usize,
+    cells: &[u8],
+    out: &mut ArrayVec<u8, N>,
+)
+    requires { AnswerAsk answer n cells.now (N - array_vec_len out.old) }
+    ensures { out.new.items ≡ out.old.items ++ solved_text answer n cells.now }
 {
     match answer {
         Ok(Verdict::Unsolvable) => write_text(b"unsolvable", out),
@@ -28,9 +33,14 @@ fn write_answer(answer: Result<Verdict, Refusal>, n: usize, cells: &[u8], out: &
 }
 
 // Solves the puzzle with its row targets in front of its column targets, into cells of its size.
-fn solve_targets(n: usize, targets: &[u8], cells: &mut [u8], out: &mut [u8]) -> usize
-    requires { SolveTargetsAsk n targets.now (length cells.old) (length out.old) }
-    ensures { PuzzleText (puzzle n (take n targets.now) (drop n targets.now)) result out.old out.new }
+fn solve_targets<const N: usize>(
+    n: usize,
+    targets: &[u8],
+    cells: &mut [u8],
+    out: &mut ArrayVec<u8, N>,
+)
+    requires { SolveTargetsAsk n targets.now (length cells.old) (N - array_vec_len out.old) }
+    ensures { PuzzleText (puzzle n (take n targets.now) (drop n targets.now)) out.old.items out.new.items }
 {
     let answer = solve(
         Unit::hall(),
@@ -40,23 +50,23 @@ fn solve_targets(n: usize, targets: &[u8], cells: &mut [u8], out: &mut [u8]) -> 
         &targets[..0],
         cells,
     );
-    write_answer(answer, n, cells, out)
+    write_answer(answer, n, cells, out);
 }
 
 // The answer to a puzzle with its row targets in front of its column targets.
-fn answer_targets(n: usize, targets: &[u8], out: &mut [u8]) -> usize
-    requires { TargetsAsk n targets.now (length out.old) }
-    ensures { PuzzleText (puzzle n (take n targets.now) (drop n targets.now)) result out.old out.new }
+fn answer_targets<const N: usize>(n: usize, targets: &[u8], out: &mut ArrayVec<u8, N>)
+    requires { TargetsAsk n targets.now (N - array_vec_len out.old) }
+    ensures { PuzzleText (puzzle n (take n targets.now) (drop n targets.now)) out.old.items out.new.items }
 {
     let mut cells = [0u8; 81];
     let area = n * n;
-    solve_targets(n, targets, &mut cells[..area], out)
+    solve_targets(n, targets, &mut cells[..area], out);
 }
 
 // The answer to the numbers of a line.
-fn answer_numbers(numbers: &[u8], out: &mut [u8]) -> usize
-    requires { NumbersAsk numbers.now (length out.old) }
-    ensures { NumbersText numbers.now result out.old out.new }
+fn answer_numbers<const N: usize>(numbers: &[u8], out: &mut ArrayVec<u8, N>)
+    requires { NumbersAsk numbers.now (N - array_vec_len out.old) }
+    ensures { NumbersText numbers.now out.old.items out.new.items }
 {
     let n = usize::from(numbers[0]);
     if !size_fits(n) {
@@ -65,19 +75,23 @@ fn answer_numbers(numbers: &[u8], out: &mut [u8]) -> usize
     if numbers.len() != 2 * n + 1 {
         return write_refused(Refusal::TargetLengths.number(), out);
     }
-    answer_targets(n, &numbers[1..], out)
+    answer_targets(n, &numbers[1..], out);
 }
 
-// Writes the text that answers a line to the front, and gives its length. A buffer of less than 100 bytes is left alone, and the answer is 0.
-pub fn answer_line(line: &[u8], out: &mut [u8]) -> usize
-    ensures { LineGiven line.now result out.old out.new }
+// Appends the text that answers a line. A buffer with room for less than 100 bytes is left alone.
+pub fn answer_line<const N: usize>(
+    line: &[u8],
+    out: &mut ArrayVec<u8, N>,
+) -> Result<(), CapacityError>
+    ensures { LineGiven line.now (N - array_vec_len out.old) result out.old.items out.new.items }
 {
-    if out.len() < 100 {
-        return 0;
+    if out.remaining_capacity() < 100 {
+        return Err(CapacityError::new(()));
     }
     let mut room = ArrayVec::new();
     match read_numbers(line, &mut room) {
         Some(numbers) => answer_numbers(numbers, out),
         None => write_refused(Refusal::TextLine.number(), out),
     }
+    Ok(())
 }

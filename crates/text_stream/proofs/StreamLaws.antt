@@ -1,18 +1,19 @@
--- A stream that goes on, and a line of which only the first bytes are kept. Assumes nothing.
-use Prim.Native.Nat.{ℕ, ◌<◌}
-use mathlib.Core.Path.{◌≡◌, sym, ap, subst, ◌∙◌}
-use mathlib.Core.List.{List, [], ◌∷◌, ◌++◌, append_assoc, append-nil}
-use native.Mathlib.Omega.{arith}
+-- A text that answers a line, a line of which only the first bytes are kept, and a stream that goes on. Assumes nothing.
+use Rattle.std.proofs.Common.{ℕ, zero, suc, ◌+◌, ◌/◌, ◌%◌, ◌≤◌, ◌<◌, ◌≡◌, refl, sym, ap, subst, ◌∙◌, true, false, cond, List, [], ◌∷◌, ◌++◌, append_assoc, append-nil, length, take, arith}
 use native.Mathlib.Decide.{dec_lt}
-use lib.ListN.{length, take, length-take}
+use lib.Dec.{ltb}
+use lib.ListN.{length-take}
 use lib.Seq.{take_all}
 use borrow.Author.Tests.{lt-leb}
 use Rattle.rules.specs.Check.{checked, refusal}
-use Rattle.rules.specs.Number.{number, verdict_of}
-use Rattle.text_rules.specs.Fields.{well_formed, puzzle_of, line_checks}
+use Rattle.rules.specs.Number.{Verdict, unsolvable, unique, multiple, number, verdict_of}
+use Rattle.rules.proofs.CheckLaws.{refusal_none}
+use Rattle.rules.proofs.SizeLaws.{size_in}
+use Rattle.text_rules.specs.Fields.{well_formed, puzzle_from, puzzle_of, number_checks, line_checks}
 use Rattle.text_rules.specs.Text.{refused_word, number_text, answer_text}
 use Rattle.text_rules.specs.Answered.{Answered}
 use Rattle.text_rules.specs.Stream.{line_end, Written, nothing, byte, ended}
+use Rattle.text_answer.proofs.RowLaws.{grid_short}
 
 -- ---- a line of which 81 bytes are kept
 
@@ -41,6 +42,27 @@ answered_kept line text a = go (dec_lt (length line) 81)
     go (yes h) = subst (λ l. Answered l text) (take_all 81 line (omega arith)) a
     go (no h) =
         subst (Answered line) (sym (same_text (take 81 line) (rw (length-take 81 line) (omega arith)) a)) (too_long line (omega arith))
+
+-- ---- how long a text is
+
+number_short : (k : ℕ) → length (number_text k) ≤ 2
+unfolding number_text
+number_short k =
+    elim (ltb k 10) as (λ b. length (cond b ((48 + k) ∷ []) ((48 + k / 10) ∷ (48 + k % 10) ∷ [])) ≤ 2) [ true ↦ omega arith | false ↦ omega arith ]
+
+text_short : (k : ℕ) (v : Verdict) (n : ℕ) (g : List ℕ) → (k ≡ 0 → n ≤ 9) → length (answer_text k v n g) ≤ 100
+unfolding answer_text
+text_short (suc k) v n g h = omega (arith, number_short (suc k))
+text_short zero unsolvable n g h = omega arith
+text_short zero unique n g h = omega (arith, grid_short n g (h refl))
+text_short zero multiple n g h = omega (arith, grid_short n g (h refl))
+
+size_small : (line : List ℕ) → refusal (line_checks line) ≡ 0 → (puzzle_of line).size ≤ 9
+unfolding line_checks number_checks puzzle_from
+size_small line e = (size_in _ (refusal_none 0 _ _ (refusal_none 10 _ _ e).1).0).high
+
+pub answered_short : (line text : List ℕ) → Answered line text → length text ≤ 100
+answered_short line text a = omega (arith, ap length a.text_is, text_short _ (verdict_of (number (puzzle_of line) [])) (puzzle_of line).size a.grid (size_small line))
 
 -- ---- one stream behind another
 

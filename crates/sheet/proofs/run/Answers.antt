@@ -1,15 +1,36 @@
-use Rattle.sheet.proofs.RunLaws.{all_answered, lines_cut, end_cut}
+-- `sheet::run` meets its contract. Assumes nothing.
+use Rattle.std.proofs.KnownBytes.{Consumes-nil}
+use Rattle.sheet.proofs.RunLaws.{on_err, ok_told, err_told, was_err, was_ok, was_value, lines_cut, lines_then, block_cut, all_answered, end_cut}
 use Rattle.sheet.proofs.run.Goals as goal
 
-pub returns-in-Stop-clause-part : goal.returns-in-Stop-clause-part
-returns-in-Stop-clause-part g c = lines_cut _ _ _ _ _ c.answer_all-turn.ensures.answers
+pub returns-in_err-n-clause-part : goal.returns-in_err-n-clause-part
+returns-in_err-n-clause-part g c =
+    on_err c.from_residual.result (lines_cut c.loop.invariant (was_err c.read_some.result c.map_err.result c.map_err.ensures.variant c.in_err-n.was c.read_some.ensures.kept))
 
-pub returns-in-Ok-clause-all : goal.returns-in-Ok-clause-all
-returns-in-Ok-clause-all g c =
-    let turn = c.answer_all-turn in
-    all_answered _ _ _ _ _ _ _ _ c.end-n.new.out turn.ensures.answers turn.ensures.stops c.in_default.not-Stop c.end-n.ensures c.in-Ok.ensures.all
+pub returns-then-n-eq0-clause-all : goal.returns-then-n-eq0-clause-all
+returns-then-n-eq0-clause-all g c =
+    let read = was_value c.read_some.result c.map_err.result _ _ c.map_err.ensures.cases c.map_err.ensures.variant c.in_ok-n.was c.read_some.ensures.bytes in
+    let end = was_value c.read_some.result c.map_err.result _ _ c.map_err.ensures.cases c.map_err.ensures.variant c.in_ok-n.was c.read_some.ensures.end in
+    ok_told c.write_out.result c.map_err-then-n-eq0.result c.map_err-then-n-eq0.ensures.variant (rw c.deref.ensures.0 at c.write_out.ensures.all)
+    (all_answered c.loop.invariant (rw c.if-n-eq0.true at read) c.clear.ensures c.end.ensures (end c.if-n-eq0.true))
 
-pub returns-in-Err-clause-part : goal.returns-in-Err-clause-part
-returns-in-Err-clause-part g c =
-    let turn = c.answer_all-turn in
-    end_cut _ _ _ _ _ _ _ _ c.end-n.new.out turn.ensures.answers turn.ensures.stops c.in_default.not-Stop c.end-n.ensures c.in-Err.ensures.cut
+pub returns-then-n-eq0-clause-part : goal.returns-then-n-eq0-clause-part
+returns-then-n-eq0-clause-part g c =
+    let read = was_value c.read_some.result c.map_err.result _ _ c.map_err.ensures.cases c.map_err.ensures.variant c.in_ok-n.was c.read_some.ensures.bytes in
+    err_told c.write_out.result c.map_err-then-n-eq0.result c.map_err-then-n-eq0.ensures.variant (rw c.deref.ensures.0 at c.write_out.ensures.cut)
+    (end_cut c.loop.invariant (rw c.if-n-eq0.true at read) c.clear.ensures c.end.ensures)
+
+pub returns-in_err-map_err-clause-part : goal.returns-in_err-map_err-clause-part
+returns-in_err-map_err-clause-part g c =
+    let read = was_value c.read_some.result c.map_err.result _ _ c.map_err.ensures.cases c.map_err.ensures.variant c.in_ok-n.was c.read_some.ensures.bytes in
+    let cut = was_err c.write_out-in-loop.result c.map_err-in-loop.result c.map_err-in-loop.ensures.variant c.in_err-map_err.was c.write_out-in-loop.ensures.cut in
+    on_err c.from_residual-in_err-map_err.result (block_cut c.loop.invariant read c.clear.ensures c.feed.ensures (rw c.deref-in-loop.ensures.0 at cut))
+
+pub loop-preserved : goal.loop-preserved
+loop-preserved g c =
+    let read = was_value c.read_some.result c.map_err.result _ _ c.map_err.ensures.cases c.map_err.ensures.variant c.in_ok-n.was c.read_some.ensures.bytes in
+    let all = was_ok c.write_out-in-loop.result c.map_err-in-loop.result c.map_err-in-loop.ensures.variant c.in_ok-map_err.was c.write_out-in-loop.ensures.all in
+    lines_then c.loop.invariant read c.clear.ensures c.feed.ensures (rw c.deref-in-loop.ensures.0 at all)
+
+pub returns-clause-part : goal.returns-clause-part
+returns-clause-part g c = lines_cut c.loop.invariant (Consumes-nil _)

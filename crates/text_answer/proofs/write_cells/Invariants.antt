@@ -1,12 +1,7 @@
--- What holds in the loops of `text_answer::write_cells`, and why they end.
-use Prim.Native.Nat.{◌-◌}
-use lib.ListN.{length}
+-- What holds in the loop of `text_answer::write_cells`.
+use Rattle.std.proofs.Common.{◌≡◌, ◌++◌, map, take}
 use Rattle.text_rules.specs.Text.{cell_text}
-use Rattle.text_answer.proofs.PutLaws.{Copied}
 use Rattle.text_answer.proofs.write_cells.Given as goal
 
-abbrev pub invariant-loop-i : goal.invariant-loop-i
-invariant-loop-i l = Copied cell_text l.row l.i l.initial.out l.out
-
-abbrev pub decreases-loop-i : goal.decreases-loop-i
-decreases-loop-i l = length l.row - l.i
+abbrev pub invariant-loop-c : goal.invariant-loop-c
+invariant-loop-c g l = l.out.items ≡ l.initial.out.items ++ map cell_text (take l.c-index l.row)

@@ -1,33 +1,19 @@
 -- `text_answer::write_grid` meets its contract: the first r rows are written. Assumes nothing.
-use native.Mathlib.Omega.{arith}
-use borrow.Author.Rules.{rules}
-use Rattle.text_answer.proofs.PutLaws.{put_both}
+use Rattle.std.proofs.Common.{◌≡◌, refl, rules, arith}
 use Rattle.text_answer.proofs.RowLaws.{rows_start, row_within, row_ask, rows_next, rows_end}
 use Rattle.text_answer.proofs.write_grid.Goals as goal
 
 pub loop-r-init : goal.loop-r-init
-loop-r-init c = search (rules, rows_start)
+loop-r-init g c = rows_start _ _ _
 
 pub overflow_mul-start : goal.overflow_mul-start
-overflow_mul-start c = omega (arith, row_within c.requires c.loop-r-test.true)
+overflow_mul-start g c = omega (arith, row_within c.requires c.loop-r-test.true)
 
-pub overflow_add-end : goal.overflow_add-end
-overflow_add-end c = omega (arith, row_within c.requires c.loop-r-test.true)
-
-pub slice_bounds-write_row-count-in-loop-r : goal.slice_bounds-write_row-count-in-loop-r
-slice_bounds-write_row-count-in-loop-r c = omega (arith, c.loop-r.invariant.put)
-
-pub write_row-k-requires : goal.write_row-k-requires
-write_row-k-requires c = row_ask c.requires c.loop-r.invariant c.loop-r-test.true
-
-pub overflow_add-at : goal.overflow_add-at
-overflow_add-at c = omega (arith, (put_both c.loop-r.invariant.put c.write_row-k.ensures).fits)
+pub write_row-requires : goal.write_row-requires
+write_row-requires g c = (search rules, row_ask c.requires c.loop-r.invariant c.loop-r-test.true _ refl)
 
 pub loop-r-preserved : goal.loop-r-preserved
-loop-r-preserved c = rows_next c.requires c.loop-r.invariant c.loop-r-test.true c.write_row-k.ensures
-
-pub shape_of-out : goal.shape_of-out
-shape_of-out c = c.loop-r.invariant.put.size
+loop-r-preserved g c = rows_next c.requires c.loop-r.invariant c.loop-r-test.true c.write_row.ensures
 
 pub returns : goal.returns
-returns c = search (rules, rows_end)
+returns g c = let e : c.loop-r.r ≡ c.args.n = omega arith in rows_end (rw e at c.loop-r.invariant)

@@ -1,10 +1,6 @@
--- What holds in the loops of `text_answer::write_grid`, and why they end.
-use Prim.Native.Nat.{◌-◌}
+-- What holds in the loop of `text_answer::write_grid`: the first r rows are written.
 use Rattle.text_answer.proofs.RowLaws.{RowsPut}
 use Rattle.text_answer.proofs.write_grid.Given as goal
 
 abbrev pub invariant-loop-r : goal.invariant-loop-r
-invariant-loop-r l = RowsPut l.n l.cells l.initial.out l.out l.at l.r
-
-abbrev pub decreases-loop-r : goal.decreases-loop-r
-decreases-loop-r l = l.n - l.r
+invariant-loop-r g l = RowsPut l.n l.cells l.initial.out.items l.out.items l.r

@@ -1,5 +1,5 @@
 -- `text_line::answer_numbers` meets its contract. Assumes nothing.
-use mathlib.Core.Path.{ap}
+use Rattle.std.proofs.Common.{ap, rules}
 use mathlib.Core.Bool.{not}
 use native.Mathlib.Omega.{arith}
 use Rattle.rules.proofs.CheckLaws.{said_yes, said_no}
@@ -8,19 +8,19 @@ use Rattle.text_line.proofs.LineLaws.{numbers_1, numbers_2, numbers_ask, numbers
 use Rattle.text_line.proofs.answer_numbers.Goals as goal
 
 pub returns-then-not-size_fits : goal.returns-then-not-size_fits
-returns-then-not-size_fits c = numbers_1 c.from-n.ensures (said_no _ _ c.size_fits.ensures (ap not c.if-not-size_fits.true)) (rw c.number.ensures at c.write_refused.ensures)
+returns-then-not-size_fits g c = numbers_1 c.from-n.ensures (said_no _ _ c.size_fits.ensures (ap not c.if-not-size_fits.true)) (rw c.number.ensures at c.write_refused.ensures)
 
 pub overflow_mul-n : goal.overflow_mul-n
-overflow_mul-n c = omega (arith, size_in c.from-n.result (said_yes _ _ c.size_fits.ensures (ap not c.if-not-size_fits.false)))
+overflow_mul-n g c = omega (arith, size_in c.from-n.result (said_yes _ _ c.size_fits.ensures (ap not c.if-not-size_fits.false)))
 
 pub overflow_add-n : goal.overflow_add-n
-overflow_add-n c = omega (arith, size_in c.from-n.result (said_yes _ _ c.size_fits.ensures (ap not c.if-not-size_fits.false)))
+overflow_add-n g c = omega (arith, size_in c.from-n.result (said_yes _ _ c.size_fits.ensures (ap not c.if-not-size_fits.false)))
 
 pub returns-then-numbers-n : goal.returns-then-numbers-n
-returns-then-numbers-n c = numbers_2 c.from-n.ensures c.requires (said_yes _ _ c.size_fits.ensures (ap not c.if-not-size_fits.false)) c.if-numbers-n.true (rw c.number-then-numbers-n.ensures at c.write_refused-then-numbers-n.ensures)
+returns-then-numbers-n g c = numbers_2 c.from-n.ensures c.requires (said_yes _ _ c.size_fits.ensures (ap not c.if-not-size_fits.false)) c.if-numbers-n.true (rw c.number-then-numbers-n.ensures at c.write_refused-then-numbers-n.ensures)
 
 pub answer_targets-requires : goal.answer_targets-requires
-answer_targets-requires c = numbers_ask c.from-n.ensures c.requires (said_yes _ _ c.size_fits.ensures (ap not c.if-not-size_fits.false)) c.if-numbers-n.false
+answer_targets-requires g c = (search rules, numbers_ask c.from-n.ensures c.requires (said_yes _ _ c.size_fits.ensures (ap not c.if-not-size_fits.false)) c.if-numbers-n.false)
 
 pub returns : goal.returns
-returns c = numbers_text c.from-n.ensures c.requires (said_yes _ _ c.size_fits.ensures (ap not c.if-not-size_fits.false)) c.if-numbers-n.false c.answer_targets.ensures
+returns g c = numbers_text c.from-n.ensures c.requires (said_yes _ _ c.size_fits.ensures (ap not c.if-not-size_fits.false)) c.if-numbers-n.false c.answer_targets.ensures

@@ -1,17 +1,13 @@
 -- `text_stream::end_line` meets its contract. Assumes nothing.
-use native.Mathlib.Omega.{arith}
-use Rattle.text_line.proofs.PuzzleTextLaws.{front_long}
-use Rattle.text_stream.proofs.FedLaws.{ended_count, ended_room, line_ended}
+use Rattle.std.proofs.Common.{rules, arith}
+use Rattle.text_stream.proofs.FedLaws.{ended_ok, ended_room, line_ended}
 use Rattle.text_stream.proofs.end_line.Goals as goal
 
-pub slice_bounds-answer_line-end-2 : goal.slice_bounds-answer_line-end-2
-slice_bounds-answer_line-end-2 c = front_long 100 c.args.out.now (omega (arith, c.requires))
+pub unwrap-requires : goal.unwrap-requires
+unwrap-requires g c = ended_ok (omega arith) c.answer_line.ensures
 
-pub bounds-out-n : goal.bounds-out-n
-bounds-out-n c = ended_room c.args.out.now c.requires c.answer_line-n.ensures
-
-pub overflow_add-result : goal.overflow_add-result
-overflow_add-result c = omega (arith, ended_count c.args.out.now c.requires c.answer_line-n.ensures)
+pub push-requires : goal.push-requires
+push-requires g c = (search rules, omega (arith, ended_room (omega arith) c.answer_line.ensures))
 
 pub returns : goal.returns
-returns c = line_ended _ c.requires c.answer_line-n.ensures
+returns g c = line_ended (omega arith) c.answer_line.ensures c.push.ensures.items

@@ -1,7 +1,7 @@
 -- `text_stream::Stream::new` meets its contract. Assumes nothing.
-use mathlib.Core.Path.{refl}
-use Rattle.text_stream.proofs.CarryLaws.{stream_new}
+use Rattle.std.proofs.Common.{rules}
+use Rattle.text_stream.proofs.FedLaws.{begun}
 use Rattle.text_stream.proofs.Stream.new.Goals as goal
 
 pub returns : goal.returns
-returns c = stream_new refl
+returns c = search (rules, begun)

@@ -1,14 +1,7 @@
--- A text at the front of a buffer, and what can be written there. Assumes nothing.
-use Rattle.std.specs.Prelude.{ℕ, ◌+◌, ◌*◌, ◌≤◌, ◌<◌, ◌≡◌, Bool, true, ◌||◌, cond, List, ◌∷◌, ◌++◌, eqb, leb, length, drop}
+-- What has a text, and what can be written where there is room. Assumes nothing.
+use Rattle.std.specs.Prelude.{ℕ, ◌+◌, ◌*◌, ◌≤◌, ◌<◌, ◌≡◌, Bool, true, ◌||◌, cond, List, ◌∷◌, eqb, leb, length}
 use Rattle.tally.specs.Tally.{all}
 use Rattle.rules.specs.Grid.{is_black}
-
--- The text stands at the front, it is as long as was counted, and the bytes behind it are as they were.
-pub record Put (text : List ℕ) (counted : ℕ) (out out' : List ℕ) : Type 0 where
-  pub count : counted ≡ length text
-  pub bytes : out' ≡ text ++ drop counted out
-  pub size : length out' ≡ length out
-  pub fits : counted ≤ length out
 
 -- A cell that has a text: black, or below 10.
 abbrev pub shown : ℕ → Bool
