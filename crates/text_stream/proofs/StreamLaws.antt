@@ -5,6 +5,7 @@ use lib.Dec.{ltb}
 use lib.ListN.{length-take}
 use lib.Seq.{take_all}
 use borrow.Author.Tests.{lt-leb}
+use Rattle.refusal.specs.declared.Refusal.TheVariants.{Size, TextLine}
 use Rattle.rules.specs.Check.{checked, refusal}
 use Rattle.rules.specs.Number.{Verdict, unsolvable, unique, multiple, number, verdict_of}
 use Rattle.rules.proofs.CheckLaws.{refusal_none}
@@ -59,7 +60,7 @@ text_short zero multiple n g h = omega (arith, grid_short n g (h refl))
 
 size_small : (line : List ℕ) → refusal (line_checks line) ≡ 0 → (puzzle_of line).size ≤ 9
 unfolding line_checks number_checks puzzle_from
-size_small line e = (size_in _ (refusal_none 0 _ _ (refusal_none 10 _ _ e).1).0).high
+size_small line e = (size_in _ (refusal_none Size _ _ (refusal_none TextLine _ _ e).1).0).high
 
 pub answered_short : (line text : List ℕ) → Answered line text → length text ≤ 100
 answered_short line text a = omega (arith, ap length a.text_is, text_short _ (verdict_of (number (puzzle_of line) [])) (puzzle_of line).size a.grid (size_small line))
