@@ -57,7 +57,7 @@ module _ {r₀ r w₀ w : Option (List ℕ)} {s : Stream} (l : LinesAnswered r�
       }
 
   -- A block more was read, and what is written for it stands in the buffer.
-  module _ {r' : Option (List ℕ)} {s' : Stream} {block out out' : List ℕ} (reads : Consumes r r' block) (empty : out ≡ []) (fed : BlockFed s s' block out out') {w' : Option (List ℕ)} where
+  module _ {r' w' : Option (List ℕ)} {s' : Stream} {block out out' : List ℕ} (reads : Consumes r r' block) (empty : out ≡ []) (fed : BlockFed s s' block out out') where
     pub lines_then : Appends w w' out' → LinesAnswered r₀ r' w₀ w' s'
     lines_then writes =
         let k = fed.carries l.input l.text l.after in
@@ -80,11 +80,13 @@ module _ {r₀ r w₀ w : Option (List ℕ)} {s : Stream} (l : LinesAnswered r�
           cut = starts.cut;
           reads = Consumes-trans _ _ _ _ _ l.reads reads;
           writes = Appends-trans _ _ _ _ _ l.writes starts.writes;
-          outputs = inl (k.after.left, subst (Written [] (l.input ++ block) k.after.left) (ap (λ x. l.text ++ x) e ∙ sym (append_assoc l.text starts.text starts.cut)) k.after.writes);
+          outputs =
+              let t = ap (λ x. l.text ++ x) e ∙ sym (append_assoc l.text starts.text starts.cut) in
+              inl (k.after.left, subst (Written [] (l.input ++ block) k.after.left) t k.after.writes);
         }
 
   -- The input has ended, and what is written for it stands in the buffer.
-  module _ {r' : Option (List ℕ)} {out out' : List ℕ} (reads : Consumes r r' []) (empty : out ≡ []) (given : LastGiven s out out') {w' : Option (List ℕ)} where
+  module _ {r' w' : Option (List ℕ)} {out out' : List ℕ} (reads : Consumes r r' []) (empty : out ≡ []) (given : LastGiven s out out') where
     pub all_answered : IsAtEnd r' → Appends w w' out' → AllAnswered r₀ r' w₀ w'
     all_answered end writes =
         let k = given.ends l.input l.text l.after in

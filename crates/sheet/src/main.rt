@@ -22,33 +22,31 @@ pub enum Failure {
     Write(io::Error),
 }
 
-// The text of an error on its way to a writer, which ends where std adds the system's number.
+// The text of an error on its way to a writer, until std adds the system's number.
 #[derive(Drop)]
 struct Reason<'a, W> {
-    writer: &'a mut W,
-    ended: bool,
+    writer: Option<&'a mut W>,
 }
 
 impl<'a, W: fmt::Write> fmt::Write for Reason<'a, W> {
     fn write_str(&mut self, s: &str) -> fmt::Result {
         if s == " (os error " {
-            self.ended = true;
+            self.writer = None;
         }
-        if self.ended {
-            return Ok(());
+        match &mut self.writer {
+            Some(writer) => writer.write_str(s),
+            None => Ok(()),
         }
-        self.writer.write_str(s)
     }
 }
 
 // What failed, and the system's reason.
 fn write_reason<W: fmt::Write>(writer: &mut W, what: &str, e: io::Error) -> fmt::Result {
     writer.write_str(what)?;
-    let mut reason = Reason {
-        writer,
-        ended: false,
-    };
-    reason.write(e)
+    Reason {
+        writer: Some(writer),
+    }
+    .write(e)
 }
 
 impl fmt::Display for Failure {

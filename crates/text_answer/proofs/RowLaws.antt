@@ -69,7 +69,8 @@ joined_short n g zero h = omega arith
 joined_short n g (suc r) h =
     let long : length (row_text n g r) ≡ n = length-map (row n g r) cell_text ∙ length-map (span 0 n) (λ c. cell n g r c) ∙ span_length 0 n in
     let next = ap (λ k. joined (map (row_text n g) (span 0 k))) (sym (add-one r)) ∙ joined_next (row_text n g) r in
-    omega (arith, ap length next, length-append (joined (map (row_text n g) (span 0 r))) (led r (row_text n g r)), joined_short n g r h, led_long r (row_text n g r), long)
+    let both = length-append (joined (map (row_text n g) (span 0 r))) (led r (row_text n g r)) in
+    omega (arith, ap length next, both, joined_short n g r h, led_long r (row_text n g r), long)
 
 pub grid_short : (n : ℕ) (g : List ℕ) → n ≤ 9 → length (grid_text n g) ≤ 90
 unfolding grid_text
@@ -107,7 +108,9 @@ module _ {n : ℕ} {g out l : List ℕ} {r room : ℕ} (a : GridAsk n g room) (w
   row_ask capacity e =
       record {
         cells = all_part shown (r * n + n - r * n) (r * n) g a.cells;
-        fits = omega (arith, cells_long, ap length w.put, length-append out (joined (map (row_text n g) (span 0 r))), joined_short n g r a.size, a.size, a.fits);
+        fits =
+            let both = length-append out (joined (map (row_text n g) (span 0 r))) in
+            omega (arith, cells_long, ap length w.put, both, joined_short n g r a.size, a.size, a.fits);
       }
 
   pub rows_next : {l' : List ℕ} → l' ≡ l ++ led r (map cell_text cells) → RowsPut n g out l' (r + 1)

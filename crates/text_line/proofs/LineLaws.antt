@@ -83,7 +83,11 @@ module _ {ns : List ℕ} {n : ℕ} (e : n ≡ get_or ns 0 0) where
 some_number : (line : List ℕ) → 0 < length (numbers line)
 unfolding numbers fields in_first
 some_number [] = omega arith
-some_number (b ∷ line) = elim (eqb b 32) as (λ t. 0 < length (map value (cond t ([] ∷ fields line) (in_first b (fields line))))) [ true ↦ omega arith | false ↦ some_first b (fields line) ]
+some_number (b ∷ line) =
+    elim (eqb b 32) as (λ t. 0 < length (map value (cond t ([] ∷ fields line) (in_first b (fields line))))) [
+      | true ↦ omega arith
+      | false ↦ some_first b (fields line)
+    ]
   where
     some_first : (b : ℕ) (fs : List (List ℕ)) → 0 < length (map value (in_first b fs))
     some_first b [] = omega arith

@@ -35,10 +35,11 @@ abbrev pub fields_left : Bool → List ℕ → List (List ℕ)
 fields_left finished rest = cond finished [] (fields rest)
 
 -- A part that is split off is the first field of what was left.
-part : (rest x rest' : List ℕ) (finished : Bool) → MatchBool finished (rest ≡ x) ((b : ℕ) × (rest ≡ x ++ b ∷ rest')) → IsFirstMatchOrLen is_space rest (length x)
-    → fields rest ≡ x ∷ fields_left finished rest'
+part : (rest x rest' : List ℕ) (finished : Bool) → MatchBool finished (rest ≡ x) ((b : ℕ) × (rest ≡ x ++ b ∷ rest'))
+    → IsFirstMatchOrLen is_space rest (length x) → fields rest ≡ x ∷ fields_left finished rest'
 part rest x rest' true e h =
-    fields_split rest ∙ ap (slice_split is_space) e ∙ slice_split_none is_space x (λ k d l. subst (λ ys. is_space (get_or ys k d) ≡ false) e (h.0 k d (omega arith) l))
+    fields_split rest ∙ ap (slice_split is_space) e
+    ∙ slice_split_none is_space x (λ k d l. subst (λ ys. is_space (get_or ys k d) ≡ false) e (h.0 k d (omega arith) l))
 part rest x rest' false e h =
     let front : All (λ z. is_space z ≡ false) x = λ k d l. let a = h.0 k d (omega arith) l in let b = e.1 in grind (arith, common_steps) in
     let hit : is_space e.0 ≡ true = let b = e.1 in let a = h.1 (grind (arith, common_steps)) e.0 in grind (arith, common_steps) in
@@ -57,8 +58,10 @@ reading_start line = record { tests = refl; values = refl; spread = omega arith 
 pub reading_end : {line rest : List ℕ} {finished : Bool} {read : List ℕ} → Reading line rest finished read → finished ≡ true → length line ≤ 80
     → (well_formed line ≡ true) × (read ≡ numbers line)
 unfolding well_formed all
-reading_end {line} {rest} {finished} {read} w e h =
-    (rw (le-leb (length line) 80 h) (w.tests ∙ ap (λ t. all is_decimal (fields_left t rest)) e), sym (w.values ∙ ap (λ t. read ++ map value (fields_left t rest)) e ∙ append-nil read))
+reading_end {line} {rest} {finished} {read} w e h = (
+  rw (le-leb (length line) 80 h) (w.tests ∙ ap (λ t. all is_decimal (fields_left t rest)) e),
+  sym (w.values ∙ ap (λ t. read ++ map value (fields_left t rest)) e ∙ append-nil read),
+)
 
 pub line_long : (line : List ℕ) → 80 < length line → well_formed line ≡ false
 unfolding well_formed
@@ -78,8 +81,8 @@ some_true true v w e = (refl, cc)
 some_true false v w e = cc
 
 -- A field x is split off.
-module _ {F : Type 0} (g : Mut F (Bor ℕ × Unit {0}) Bool) (s t : Split ℕ F) (x : Bor (List ℕ)) {line read : List ℕ} (by : ComputesKey g is_space (split_callee s))
-    (k : split_steps g s (Some x) t) (w : Reading line (split_rest s) (split_done s) read) where
+module _ {F : Type 0} (g : Mut F (Bor ℕ × Unit {0}) Bool) (s t : Split ℕ F) (x : Bor (List ℕ)) {line read : List ℕ}
+    (by : ComputesKey g is_space (split_callee s)) (k : split_steps g s (Some x) t) (w : Reading line (split_rest s) (split_done s) read) where
   is_first : fields_left (split_done s) (split_rest s) ≡ x.now ∷ fields_left (split_done t) (split_rest t)
   is_first = ap (λ b. fields_left b (split_rest s)) k.0 ∙ part _ _ _ _ k.1 (k.2 is_space by).1
 

@@ -108,11 +108,13 @@ module _ {block kept₀ out₀ : List ℕ} {i : ℕ} {kept out : List ℕ} (w : 
             };
       }
 
-pub feeding_end : {block out₀ : List ℕ} {i : ℕ} {s s' : Stream} {out : List ℕ} → Feeding block s.kept.items out₀ i s'.kept.items out → length block ≤ i → BlockFed s s' block out₀ out
+pub feeding_end : {block out₀ : List ℕ} {i : ℕ} {s s' : Stream} {out : List ℕ} → Feeding block s.kept.items out₀ i s'.kept.items out → length block ≤ i
+    → BlockFed s s' block out₀ out
 feeding_end {block} {out₀} {i} {s} {s'} {out} w h =
     record {
       carries = λ input output before.
-          let g : GoesOn before.left block out₀ s'.kept.items out = subst (λ b. GoesOn before.left b out₀ s'.kept.items out) (take_all i block h) (w.goes_on before.left before.keeps) in
+          let g : GoesOn before.left block out₀ s'.kept.items out =
+          subst (λ b. GoesOn before.left b out₀ s'.kept.items out) (take_all i block h) (w.goes_on before.left before.keeps) in
           record {
             text = g.output;
             after = record { left = g.left; writes = written_then before.writes g.writes; keeps = g.keeps };

@@ -63,7 +63,9 @@ unfolding line_checks number_checks puzzle_from
 size_small line e = (size_in _ (refusal_none Size _ _ (refusal_none TextLine _ _ e).1).0).high
 
 pub answered_short : (line text : List ℕ) → Answered line text → length text ≤ 100
-answered_short line text a = omega (arith, ap length a.text_is, text_short _ (verdict_of (number (puzzle_of line) [])) (puzzle_of line).size a.grid (size_small line))
+answered_short line text a =
+    let short = text_short _ (verdict_of (number (puzzle_of line) [])) (puzzle_of line).size a.grid (size_small line) in
+    omega (arith, ap length a.text_is, short)
 
 -- ---- one stream behind another
 

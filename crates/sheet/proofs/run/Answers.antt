@@ -5,7 +5,8 @@ use Rattle.sheet.proofs.run.Goals as goal
 
 pub returns-in_err-n-clause-part : goal.returns-in_err-n-clause-part
 returns-in_err-n-clause-part g c =
-    on_err c.from_residual.result (lines_cut c.loop.invariant (was_err c.read_some.result c.map_err.result c.map_err.ensures.variant c.in_err-n.was c.read_some.ensures.kept))
+    let kept = was_err c.read_some.result c.map_err.result c.map_err.ensures.variant c.in_err-n.was c.read_some.ensures.kept in
+    on_err c.from_residual.result (lines_cut c.loop.invariant kept)
 
 pub returns-then-n-eq0-clause-all : goal.returns-then-n-eq0-clause-all
 returns-then-n-eq0-clause-all g c =
@@ -23,13 +24,15 @@ returns-then-n-eq0-clause-part g c =
 pub returns-in_err-map_err-clause-part : goal.returns-in_err-map_err-clause-part
 returns-in_err-map_err-clause-part g c =
     let read = was_value c.read_some.result c.map_err.result _ _ c.map_err.ensures.cases c.map_err.ensures.variant c.in_ok-n.was c.read_some.ensures.bytes in
-    let cut = was_err c.write_out-in-loop.result c.map_err-in-loop.result c.map_err-in-loop.ensures.variant c.in_err-map_err.was c.write_out-in-loop.ensures.cut in
+    let told = c.map_err-in-loop in
+    let cut = was_err c.write_out-in-loop.result told.result told.ensures.variant c.in_err-map_err.was c.write_out-in-loop.ensures.cut in
     on_err c.from_residual-in_err-map_err.result (block_cut c.loop.invariant read c.clear.ensures c.feed.ensures (rw c.deref-in-loop.ensures.0 at cut))
 
 pub loop-preserved : goal.loop-preserved
 loop-preserved g c =
     let read = was_value c.read_some.result c.map_err.result _ _ c.map_err.ensures.cases c.map_err.ensures.variant c.in_ok-n.was c.read_some.ensures.bytes in
-    let all = was_ok c.write_out-in-loop.result c.map_err-in-loop.result c.map_err-in-loop.ensures.variant c.in_ok-map_err.was c.write_out-in-loop.ensures.all in
+    let told = c.map_err-in-loop in
+    let all = was_ok c.write_out-in-loop.result told.result told.ensures.variant c.in_ok-map_err.was c.write_out-in-loop.ensures.all in
     lines_then c.loop.invariant read c.clear.ensures c.feed.ensures (rw c.deref-in-loop.ensures.0 at all)
 
 pub returns-clause-part : goal.returns-clause-part

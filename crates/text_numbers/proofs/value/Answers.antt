@@ -14,7 +14,8 @@ returns-in_err-checked_mul c =
 pub returns-in_err-v : goal.returns-in_err-v
 returns-in_err-v c =
     let h = c.in_err-v.ensures in
-    c.from_residual-in_err-v.ensures ∙ valued_above c.loop-b.invariant c.loop-b-test.true c.if-not-is_ascii_digit.ensures.cases (omega (arith, h, c.in_ok-checked_mul.ensures))
+    c.from_residual-in_err-v.ensures
+    ∙ valued_above c.loop-b.invariant c.loop-b-test.true c.if-not-is_ascii_digit.ensures.cases (omega (arith, h, c.in_ok-checked_mul.ensures))
 
 pub loop-b-preserved : goal.loop-b-preserved
 loop-b-preserved c =
