@@ -1,16 +1,19 @@
 -- Bytes fed one after the other, and the stream value from block to block. Assumes nothing.
-use Rattle.std.proofs.Common.{ℕ, ◌+◌, ◌*◌, ◌≤◌, ◌<◌, ◌≡◌, refl, sym, ap, subst, ◌∙◌, false, List, [], ◌∷◌, ◌++◌, append_assoc, append-nil, length, take, get_or, length-append, Result, Ok, Err, IsOk, OnOk, OnErr, arith, add-one}
+use Rattle.std.proofs.Common.{ℕ, suc, ◌+◌, ◌-◌, ◌*◌, ◌≤◌, ◌<◌, ◌≡◌, refl, sym, ap, subst, ◌∙◌, Bool, true, false, not, cond, List, [], ◌∷◌, ◌++◌, append_assoc, append-nil, length, take, drop, length-append, Some, None, Result, IsOk, arith, add-one}
 use Rattle.std.proofs.lemmas.Bool.{false≢true}
-use lib.Dec.{eqb}
+use Rattle.std.proofs.lemmas.List.{take-append-drop, take_rest}
+use Rattle.std.proofs.lemmas.List.Quantifiers.{position-Some}
+use Rattle.std.specs.List.{position, position_or_len}
+use native.Mathlib.Decide.{dec_lt}
+use lib.Dec.{eqb, ltb}
 use lib.ListN.{length-take}
-use lib.Seq.{take_all, take-append-le, take-suc}
-use borrow.Author.Tests.{eq-eqb}
-use Rattle.arrayvec.specs.ArrayVec.{ArrayVec}
+use lib.Seq.{take_all, take-append-le, take-append-add, drop-cons}
+use borrow.Author.Tests.{eq-eqb, eqb-true, lt-ltb}
 use Rattle.text_rules.specs.Answered.{Answered}
 use Rattle.text_rules.specs.Stream.{line_end, Written, nothing, byte, ended, none, last, streamed}
 use Rattle.text_line.specs.Line.{LineText, LineGiven}
 use Rattle.text_stream.specs.declared.Stream.{Stream}
-use Rattle.text_stream.specs.Fed.{Keeps, LineEnded, GoesOn, ByteFed}
+use Rattle.text_stream.specs.Fed.{Keeps, LineEnded, GoesOn}
 use Rattle.text_stream.specs.Stream.{Begun, BlockFed, LastGiven}
 use Rattle.text_stream.proofs.StreamLaws.{answered_short, answered_kept, written_then}
 
@@ -35,92 +38,124 @@ module _ {T E : Type 0} {line : List ℕ} {room : ℕ} {told : Result T E} {out 
         most = omega (arith, ap length e, length-append l (line_end ∷ []), ended_room);
       }
 
--- ---- a byte
+-- ---- the bytes of a line
 
-kept_more : (b : ℕ) {kept kept' : List ℕ} → kept' ≡ kept ++ b ∷ [] → length kept < 81 → (line : List ℕ) → Keeps kept line → Keeps kept' (line ++ b ∷ [])
-kept_more b e h line k =
-    let m = length-take 81 line in
-    let short : length line < 81 = omega (arith, ap length k) in
-    e ∙ ap (λ l. l ++ b ∷ []) (k ∙ take_all 81 line (omega arith)) ∙ sym (take_all 81 (line ++ b ∷ []) (omega (arith, length-append line (b ∷ []))))
+-- A byte is a line end.
+abbrev pub is_end : ℕ → Bool
+is_end b = eqb b line_end
 
-kept_full : (b : ℕ) {kept : List ℕ} → length kept ≡ 81 → (line : List ℕ) → Keeps kept line → Keeps kept (line ++ b ∷ [])
-kept_full b h line k = let m = length-take 81 line in k ∙ sym (take-append-le 81 line (b ∷ []) (omega (arith, ap length k)))
+-- Bytes in front of a line end go on with the line.
+written_front : (begun xs : List ℕ) → Written begun (take (position_or_len is_end xs) xs) (begun ++ take (position_or_len is_end xs) xs) []
+written_front begun [] = subst (λ l. Written begun [] l []) (sym (append-nil begun)) nothing
+written_front begun (b ∷ xs) = go (is_end b) refl (written_front (begun ++ b ∷ []) xs)
+  where
+    front : Bool → List ℕ
+    front t = take (cond (not t) (1 + position_or_len is_end xs) 0) (b ∷ xs)
 
-module _ {b : ℕ} {kept out : List ℕ} where
-  pub fed_end : {kept' out' : List ℕ} → b ≡ line_end → LineEnded kept out out' → kept' ≡ [] → ByteFed b kept out kept' out'
-  fed_end {kept'} {out'} q w e =
-      record {
-        most = w.most;
-        goes_on = λ begun k.
-            record {
-              left = [];
-              output = w.text ++ line_end ∷ [];
-              writes =
-                  subst (λ x. Written begun (x ∷ []) [] (w.text ++ line_end ∷ [])) (sym q)
-                  (ended w.text (answered_kept begun w.text (subst (λ l. Answered l w.text) k w.answers)) nothing);
-              keeps = e;
-              put = w.put;
-            };
-      }
+    more : List ℕ
+    more = take (position_or_len is_end xs) xs
 
-  fed : {kept' : List ℕ} → (b ≡ line_end → ⊥) → ((line : List ℕ) → Keeps kept line → Keeps kept' (line ++ b ∷ [])) → ByteFed b kept out kept' out
-  fed q w =
-      record {
-        most = omega arith;
-        goes_on = λ begun k. record { left = begun ++ b ∷ []; output = []; writes = byte b q nothing; keeps = w begun k; put = sym (append-nil out) };
-      }
+    go : (t : Bool) → is_end b ≡ t → Written (begun ++ b ∷ []) more ((begun ++ b ∷ []) ++ more) [] → Written begun (front t) (begun ++ front t) []
+    go true e w = subst (λ l. Written begun [] l []) (sym (append-nil begun)) nothing
+    go false e w =
+        let first : Written begun (b ∷ []) (begun ++ b ∷ []) [] = byte b (λ q. false≢true (sym e ∙ eq-eqb b line_end q)) nothing in
+        let one : 1 + position_or_len is_end xs ≡ suc (position_or_len is_end xs) = omega arith in
+        rw one (subst (λ l. Written begun (b ∷ more) l []) (append_assoc begun (b ∷ []) more) (written_then first w))
 
--- A byte was pushed where there was room.
-pub fed_byte : {T E : Type 0} (r : Result T E) (v v' : ArrayVec ℕ) {b : ℕ} {out : List ℕ} → (b ≡ line_end → ⊥) → (IsOk r → length v.items < 81)
-    → OnOk r (v'.items ≡ v.items ++ b ∷ []) → OnErr r (v' ≡ v) → OnErr r (length v.items ≡ 81) → ByteFed b v.items out v'.items out
-fed_byte (Ok x) v v' {b} q room ok same full = fed q (kept_more b ok (room refl))
-fed_byte (Err e) v v' {b} {out} q room ok same full = subst (λ u. ByteFed b v.items out u.items out) (sym same) (fed q (kept_full b full))
+found : (t : Bool) (n i : ℕ) → cond t (Some n) None ≡ Some i → n ≡ i
+found true n i e = cc
+found false n i e = cc
+
+lost : (n m : ℕ) → cond (ltb n m) (Some n) None ≡ None → m ≤ n
+lost n m e = go (dec_lt n m)
+  where
+    go : Dec (n < m) → m ≤ n
+    go (yes h) = let q : Some n ≡ None = rw (lt-ltb n m h) at e in cc
+    go (no h) = omega arith
+
+written_to_end : (begun xs : List ℕ) (i : ℕ) → position is_end xs ≡ Some i → Written begun (take i xs) (begun ++ take i xs) []
+written_to_end begun xs i e =
+    subst (λ n. Written begun (take n xs) (begun ++ take n xs) []) (found (ltb (position_or_len is_end xs) (length xs)) _ _ e) (written_front begun xs)
+
+written_whole : (begun xs : List ℕ) → position is_end xs ≡ None → Written begun xs (begun ++ xs) []
+written_whole begun xs e =
+    subst (λ l. Written begun l (begun ++ l) []) (take_all (position_or_len is_end xs) xs (lost _ _ e)) (written_front begun xs)
+
+-- What there is room for is kept.
+kept_on : (line xs : List ℕ) {kept : List ℕ} → Keeps kept line → Keeps (kept ++ take (81 - length kept) xs) (line ++ xs)
+kept_on line xs {kept} k = go (dec_lt (length line) 81)
+  where
+    go : Dec (length line < 81) → kept ++ take (81 - length kept) xs ≡ take 81 (line ++ xs)
+    go (yes h) =
+        let e : kept ≡ line = k ∙ take_all 81 line (omega arith) in
+        let n : length line + (81 - length line) ≡ 81 = omega arith in
+        ap (λ l. l ++ take (81 - length l) xs) e ∙ sym (take-append-add line xs (81 - length line)) ∙ ap (λ m. take m (line ++ xs)) n
+    go (no h) =
+        let n : 81 - length kept ≡ 0 = omega (arith, ap length k, length-take 81 line) in
+        ap (λ m. kept ++ take m xs) n ∙ append-nil kept ∙ k ∙ sym (take-append-le 81 line xs (omega arith))
 
 -- ---- a block
 
--- The first i bytes of a block are fed.
-pub record Feeding (block kept₀ out₀ : List ℕ) (i : ℕ) (kept out : List ℕ) : Type 0 where
-  pub count : length out ≤ length out₀ + 101 * i
-  pub goes_on : (begun : List ℕ) → Keeps kept₀ begun → GoesOn begun (take i block) out₀ kept out
+-- What is passed of a block is fed.
+pub record Feeding (block kept₀ out₀ rest kept out : List ℕ) : Type 0 where
+  pub passed : List ℕ
+  pub whole : block ≡ passed ++ rest
+  pub count : length out ≤ length out₀ + 101 * length passed
+  pub goes_on : (begun : List ℕ) → Keeps kept₀ begun → GoesOn begun passed out₀ kept out
 
-pub feeding_start : (block kept out : List ℕ) → Feeding block kept out 0 kept out
+pub feeding_start : (block kept out : List ℕ) → Feeding block kept out block kept out
 feeding_start block kept out =
     record {
+      passed = [];
+      whole = refl;
       count = omega arith;
       goes_on = λ begun k. record { left = begun; output = []; writes = nothing; keeps = k; put = sym (append-nil out) };
     }
 
-module _ {block kept₀ out₀ : List ℕ} {i : ℕ} {kept out : List ℕ} (w : Feeding block kept₀ out₀ i kept out) where
-  pub feeding_next : {kept' out' : List ℕ} → i < length block → ByteFed (get_or block i 0) kept out kept' out' → Feeding block kept₀ out₀ (i + 1) kept' out'
-  feeding_next h v =
+module _ {block kept₀ out₀ rest kept out : List ℕ} (w : Feeding block kept₀ out₀ rest kept out) where
+  -- A line of the block, and its end.
+  pub feeding_next : (i : ℕ) {kept' kept'' out' : List ℕ} → Some i ≡ position is_end rest → kept' ≡ kept ++ take (81 - length kept) (take i rest)
+      → LineEnded kept' out out' → kept'' ≡ [] → Feeding block kept₀ out₀ (take (length rest - (i + 1)) (drop (i + 1) rest)) kept'' out'
+  feeding_next i {kept'} {kept''} {out'} e is v empty =
+      let line : List ℕ = take i rest in
+      let at_end = position-Some is_end rest i 0 (sym e) in
+      let cut : drop i rest ≡ line_end ∷ drop (i + 1) rest =
+      drop-cons rest i 0 at_end.0 ∙ rw (add-one i) (ap (λ b. b ∷ drop (suc i) rest) (eqb-true _ line_end at_end.1)) in
+      let split : rest ≡ (line ++ line_end ∷ []) ++ drop (i + 1) rest =
+      sym (take-append-drop i rest) ∙ ap (λ l. line ++ l) cut ∙ sym (append_assoc line (line_end ∷ []) (drop (i + 1) rest)) in
       record {
-        count = omega (arith, v.most, w.count);
+        passed = w.passed ++ (line ++ line_end ∷ []);
+        whole =
+            w.whole ∙ ap (λ l. w.passed ++ l) split ∙ sym (append_assoc w.passed (line ++ line_end ∷ []) (drop (i + 1) rest))
+            ∙ ap (λ l. (w.passed ++ (line ++ line_end ∷ [])) ++ l) (sym (take_rest rest (i + 1)));
+        count = omega (arith, v.most, w.count, length-append w.passed (line ++ line_end ∷ []), length-append line (line_end ∷ []));
         goes_on = λ begun k.
             let g = w.goes_on begun k in
-            let x = v.goes_on g.left g.keeps in
-            let more : take (i + 1) block ≡ take i block ++ get_or block i 0 ∷ [] = rw (add-one i) (take-suc block i 0 h) in
+            let answers : Answered (g.left ++ line) v.text =
+            answered_kept (g.left ++ line) v.text (subst (λ l. Answered l v.text) (is ∙ kept_on g.left line g.keeps) v.answers) in
             record {
-              left = x.left;
-              output = g.output ++ x.output;
-              writes = subst (λ b. Written begun b x.left (g.output ++ x.output)) (sym more) (written_then g.writes x.writes);
-              keeps = x.keeps;
-              put = x.put ∙ ap (λ l. l ++ x.output) g.put ∙ append_assoc out₀ g.output x.output;
+              left = [];
+              output = g.output ++ (v.text ++ line_end ∷ []);
+              writes = written_then g.writes (ended v.text answers (written_to_end g.left rest i (sym e)));
+              keeps = empty;
+              put = v.put ∙ ap (λ l. l ++ (v.text ++ line_end ∷ [])) g.put ∙ append_assoc out₀ g.output (v.text ++ line_end ∷ []);
             };
       }
 
-pub feeding_end : {block out₀ : List ℕ} {i : ℕ} {s s' : Stream} {out : List ℕ} → Feeding block s.kept.items out₀ i s'.kept.items out → length block ≤ i
-    → BlockFed s s' block out₀ out
-feeding_end {block} {out₀} {i} {s} {s'} {out} w h =
-    record {
-      carries = λ input output before.
-          let g : GoesOn before.left block out₀ s'.kept.items out =
-          subst (λ b. GoesOn before.left b out₀ s'.kept.items out) (take_all i block h) (w.goes_on before.left before.keeps) in
-          record {
-            text = g.output;
-            after = record { left = g.left; writes = written_then before.writes g.writes; keeps = g.keeps };
-            put = g.put;
-          };
-    }
+  -- What stands behind the last line end of the block.
+  pub feeding_end : {s s' : Stream} → s.kept.items ≡ kept₀ → None ≡ position is_end rest → s'.kept.items ≡ kept ++ take (81 - length kept) rest → BlockFed s s' block out₀ out
+  feeding_end {s} {s'} is₀ e is =
+      record {
+        carries = λ input output before.
+            let g = w.goes_on before.left (sym is₀ ∙ before.keeps) in
+            let on : Written before.left (w.passed ++ rest) (g.left ++ rest) (g.output ++ []) = written_then g.writes (written_whole g.left rest (sym e)) in
+            let all : Written before.left block (g.left ++ rest) g.output = rw (w.whole, ← append-nil g.output) on in
+            record {
+              text = g.output;
+              after = record { left = g.left ++ rest; writes = written_then before.writes all; keeps = is ∙ kept_on g.left rest g.keeps };
+              put = g.put;
+            };
+      }
 
 -- ---- the ends of the input
 

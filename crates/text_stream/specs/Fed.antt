@@ -21,8 +21,3 @@ pub record GoesOn (begun input out kept' out' : List ℕ) : Type 0 where
   pub writes : Written begun input left output
   pub keeps : Keeps kept' left
   pub put : out' ≡ out ++ output
-
--- One byte is fed.
-pub record ByteFed (b : ℕ) (kept out kept' out' : List ℕ) : Type 0 where
-  pub most : length out' ≤ length out + 101
-  pub goes_on : (begun : List ℕ) → Keeps kept begun → GoesOn begun (b ∷ []) out kept' out'

@@ -2,9 +2,9 @@
 // Of a line that is not ended yet its first 81 bytes are kept: a longer line is refused for its length alone.
 #![tactic(auto)]
 
-ghost use Rattle.std.specs.Prelude.{◌≡◌, ◌+◌, ◌*◌, ◌≤◌, length};
+ghost use Rattle.std.specs.Prelude.{◌≡◌, ◌+◌, ◌-◌, ◌*◌, ◌≤◌, ◌==◌, ◌++◌, length, take, position};
 ghost use Rattle.arrayvec.specs.ArrayVec.{array_vec_len};
-ghost use Rattle.text_stream.specs.Fed.{LineEnded, ByteFed};
+ghost use Rattle.text_stream.specs.Fed.{LineEnded};
 ghost use Rattle.text_stream.specs.Stream.{Begun, BlockFed, LastGiven};
 
 use arrayvec::ArrayVec;
@@ -14,6 +14,13 @@ use text_line::answer_line;
 #[derive(Drop)]
 pub struct Stream {
     pub kept: ArrayVec<u8, 81>,
+}
+
+// Where the first line end stands.
+fn line_end(bytes: &[u8]) -> Option<usize>
+    ensures { result ≡ position (λ b. b == 10) bytes.now }
+{
+    bytes.iter().position(|b| *b == b'\n')
 }
 
 // Appends the text that answers a line, and a line end.
@@ -35,18 +42,12 @@ impl Stream {
         }
     }
 
-    // One byte of the input: a line end, or a byte of the line.
-    fn feed_byte<const N: usize>(&mut self, b: u8, out: &mut ArrayVec<u8, N>)
-        requires { array_vec_len out.old + 101 ≤ N }
-        ensures { ByteFed b self.old.kept.items out.old.items self.new.kept.items out.new.items }
+    // Keeps the next bytes of the line, as far as there is room.
+    fn keep(&mut self, bytes: &[u8])
+        ensures { self.new.kept.items ≡ self.old.kept.items ++ take (81 - array_vec_len self.old.kept) bytes.now }
     {
-        if b == b'\n' {
-            end_line(&self.kept, out);
-            self.kept.clear();
-        } else {
-            // What stands behind 81 bytes is not kept.
-            let _ = self.kept.try_push(b);
-        }
+        let room = bytes.len().min(self.kept.remaining_capacity());
+        self.kept.try_extend_from_slice(&bytes[..room]).unwrap();
     }
 
     // Takes a block of the input; the texts that answer the lines ended in it, each with a line end, are appended to the buffer.
@@ -54,9 +55,14 @@ impl Stream {
         requires { array_vec_len out.old + 101 * length block.now ≤ N }
         ensures { BlockFed self.old self.new block.now out.old.items out.new.items }
     {
-        for b in block {
-            self.feed_byte(*b, out);
+        let mut rest = block;
+        while let Some(end) = line_end(rest) {
+            self.keep(&rest[..end]);
+            end_line(&self.kept, out);
+            self.kept.clear();
+            rest = &rest[end + 1..];
         }
+        self.keep(rest);
     }
 
     // The input has ended: the text that answers the line it leaves without a line end, if that is not empty.
