@@ -25,11 +25,6 @@ use Rattle.queue_state.proofs.ReadyLaws.{ready_unused}
 use Rattle.queue_state.specs.Ready.{Ready}
 use Rattle.pick.specs.Choice.{row_choices}
 
-pub choices_most : (l : List ℕ) (x : ℕ) → row_choices l x ≤ 9
-unfolding row_choices sum_over
-choices_most l x =
-    omega (arith, cand_lt l x 1, cand_lt l x 2, cand_lt l x 3, cand_lt l x 4, cand_lt l x 5, cand_lt l x 6, cand_lt l x 7, cand_lt l x 8, cand_lt l x 9)
-
 -- ---- by the set bits
 
 -- the bits of the row half

@@ -1,5 +1,5 @@
 -- The best cell among those that were looked at. Assumes nothing.
-use Rattle.std.specs.Prelude.{ℕ, ◌*◌, ◌%◌, ◌≤◌, ◌<◌, ◌≡◌, ◌⊎◌, List, length, Option, Some, None, MatchOption}
+use Rattle.std.specs.Prelude.{ℕ, ◌*◌, ◌%◌, ◌≤◌, ◌<◌, ◌≡◌, List, length, Option, Some, None}
 use Rattle.queue_state.specs.Layout.{slab_size}
 use Rattle.queue_state.specs.Ready.{Ready}
 use Rattle.pick.specs.Choice.{row_choices, Open}
@@ -9,12 +9,6 @@ use Rattle.pick.specs.declared.Best.{Best}
 pub record PlaceAsk (l : List ℕ) (cell : ℕ) : Type 0 where
   pub size : length l ≡ slab_size
   pub place : cell < 81
-
--- The best cell after one more: the old one where that cell has no choice or no fewer candidates, else that cell, which has a choice.
-abbrev pub Looked : Option Best → ℕ → ℕ → Option Best → Type 0
-Looked best cell free next =
-    MatchOption next ((best ≡ None) × (free < 2))
-    (λ b. ((best ≡ Some b) × ((free < 2) ⊎ (b.free ≤ free))) ⊎ ((2 ≤ free) × (b ≡ record { cell = cell; free = free })))
 
 -- The best of the cells before place k: an open cell, or none of them is open.
 abbrev pub Sought : ℕ → List ℕ → ℕ → Option Best → Type 0

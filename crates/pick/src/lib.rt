@@ -5,7 +5,7 @@
 ghost use Rattle.std.specs.Prelude.{◌≡◌, ◌+◌, ◌*◌, ◌<◌, IsSomeAnd};
 ghost use Rattle.queue_state.specs.Ready.{Ready};
 ghost use Rattle.pick.specs.Choice.{row_choices, RowCandidate, Picked};
-ghost use Rattle.pick.specs.Scanning.{PlaceAsk, Looked, Sought, BestRowAsk};
+ghost use Rattle.pick.specs.Scanning.{PlaceAsk, Sought, BestRowAsk};
 
 use queue_state::Slab;
 use std::cmp::Reverse;
@@ -26,18 +26,7 @@ fn freedom(st: &[u16], cell: usize) -> u32
     (st[cell] & Value::ROW_HALF).count_ones()
 }
 
-// The better of two cells: a choice at all, then the fewest candidates, then the first.
-fn look(best: Option<Best>, cell: usize, free: u32) -> Option<Best>
-    ensures { Looked best cell free result }
-{
-    if free < 2 || best.is_some_and(|old| old.free <= free) {
-        best
-    } else {
-        Some(Best { cell, free })
-    }
-}
-
-// Goes on through row r, up to a cell with two candidates.
+// Goes on through row r, up to a cell with two candidates: one with a choice at all, then the fewest candidates, then the first.
 fn pick_row(st: &[u16], n: usize, r: usize, start: Option<Best>) -> Option<Best>
     requires { BestRowAsk n st.now r start }
     ensures { Sought n st.now (r * 9 + 9) result }
@@ -45,9 +34,12 @@ fn pick_row(st: &[u16], n: usize, r: usize, start: Option<Best>) -> Option<Best>
     let mut best = start;
     for c in 0..n {
         let cell = r * 9 + c;
-        best = look(best, cell, freedom(st, cell));
-        if matches!(best, Some(Best { free: 2, .. })) {
-            return best;
+        let free = freedom(st, cell);
+        if free >= 2 && best.is_none_or(|old| free < old.free) {
+            best = Some(Best { cell, free });
+            if free == 2 {
+                return best;
+            }
         }
     }
     best

@@ -52,12 +52,11 @@ fn rest_of_half(v: usize) -> u16
     requires { (1 ≤ v) × (v < 12) }
     ensures { RestOfHalf v result }
 {
-    let half = match v {
-        ..Value::BLACK1_ROW => Value::EVERY,
-        ..Value::BLACK1_COL => Value::ROW_HALF,
-        _ => Value::COL_HALF,
-    };
-    half - (1u16 << v)
+    match v {
+        ..Value::BLACK1_ROW => Value::EVERY - (1u16 << v),
+        ..Value::BLACK1_COL => Value::ROW_HALF - (1u16 << v),
+        _ => Value::COL_HALF - (1u16 << v),
+    }
 }
 
 // Sets the cell of a candidate to its value.
