@@ -12,12 +12,12 @@ use std::fmt;
 // The call that a record is of.
 #[derive(Clone, Copy, PartialEq, Eq)]
 pub enum Call {
-    TargetSums,
-    MarkSheet,
-    Candidates,
-    Count,
-    Solve,
-    LineCheck,
+    TargetSums = 1,
+    MarkSheet = 2,
+    Candidates = 3,
+    Count = 4,
+    Solve = 5,
+    LineCheck = 6,
 }
 
 impl Call {
@@ -44,6 +44,13 @@ impl Call {
             6 => Some(Call::LineCheck),
             _ => None,
         }
+    }
+
+    // The tag of its records.
+    pub fn tag(self) -> u8
+        ensures { result ≡ tag_of self }
+    {
+        self as u8
     }
 
     // How many fields its records have.

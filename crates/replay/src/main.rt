@@ -14,13 +14,14 @@ use std::io::{ErrorKind, Read};
 // A line such as "target sums: 213 replayed, 0 differ" for each call, and one for all.
 fn print_report(rt: &impl Print, list: &[u8]) -> io::Result<()> {
     for call in Call::ALL {
-        let tally = replay_list(list, Some(call));
+        let tag = usize::from(call.tag());
+        let tally = replay_list(list, tag, tag);
         println!(rt;
             "{call}: {} replayed, {} differ",
             tally.replayed, tally.differ
         )?;
     }
-    let all = replay_list(list, None);
+    let all = replay_list(list, 0, 255);
     println!(rt; "{} answers, {} differ", all.replayed, all.differ)?;
     if 0 < all.differ
         && let Some(at) = first_difference(list)

@@ -57,14 +57,6 @@ in_kinds first last k = leb first k && leb k last
 abbrev pub as_number : Bool → ℕ
 as_number b = cond b 1 0
 
--- The kinds that are counted: that of one call, or all, a byte each, where none is named.
-abbrev pub first_kind : Option Call → ℕ
-first_kind only = kind_of only
-
-abbrev pub last_kind : Option Call → ℕ
-last_kind None = 255
-last_kind (Some call) = tag_of call
-
 -- Of the records of a list whose kind is from first to last, there are some number, and in some number of these the engine answers otherwise.
 pub data RecordsTallied (first last : ℕ) : ℕ → ℕ → List ℕ → Type 0 where
   none : RecordsTallied first last 0 0 []

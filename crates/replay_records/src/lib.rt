@@ -7,7 +7,7 @@ mod solver_calls;
 
 ghost use Rattle.std.specs.Prelude.{◌≡◌, ◌+◌, ◌<◌, ◌^◌, not, length, MatchOption};
 ghost use Rattle.record_fields.specs.Calls.{tag_of};
-ghost use Rattle.replay_records.specs.Replay.{FindsAs, Replayed, kind_of, in_kinds, as_number, first_kind, last_kind, RecordsTallied, FirstDifference};
+ghost use Rattle.replay_records.specs.Replay.{FindsAs, Replayed, kind_of, in_kinds, as_number, RecordsTallied, FirstDifference};
 
 use arrayvec::ArrayVec;
 use calls::{line_check_agrees, mark_sheet_agrees, target_sums_agree};
@@ -77,22 +77,33 @@ pub fn replay(list: &[u8]) -> Outcome
     }
 }
 
-// Whether the records of a call are counted: of one call those, and all where none is named.
-fn is_counted(only: Option<Call>, call: Option<Call>) -> bool
-    ensures { result ≡ in_kinds (first_kind only) (last_kind only) (kind_of call) }
+// The kind of a record: its call's tag, or 0 where it has none.
+fn kind(call: Option<Call>) -> usize
+    ensures { result ≡ kind_of call }
 {
-    only.is_none() || call == only
+    match call {
+        Some(call) => usize::from(call.tag()),
+        None => 0,
+    }
 }
 
-// How many records of a list are of one call, or how many there are where none is named, and in how many of these the engine answers otherwise.
-pub fn replay_list(list: &[u8], only: Option<Call>) -> Tally
-    ensures { RecordsTallied (first_kind only) (last_kind only) result.replayed result.differ list.now }
+// Whether the kind of a record is from first to last.
+fn is_counted(first: usize, last: usize, call: Option<Call>) -> bool
+    ensures { result ≡ in_kinds first last (kind_of call) }
+{
+    let kind = kind(call);
+    first <= kind && kind <= last
+}
+
+// How many records of a list have a kind from first to last, and in how many of these the engine answers otherwise.
+pub fn replay_list(list: &[u8], first: usize, last: usize) -> Tally
+    ensures { RecordsTallied first last result.replayed result.differ list.now }
 {
     let mut tally = Tally::default();
     let mut rest = list;
     while !rest.is_empty() {
         let outcome = replay(rest);
-        if is_counted(only, outcome.call) {
+        if is_counted(first, last, outcome.call) {
             tally.add(outcome.agrees);
         }
         rest = &rest[outcome.length..];

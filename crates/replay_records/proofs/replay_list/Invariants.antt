@@ -1,11 +1,10 @@
 -- What holds in the loop of `replay_records::replay_list`, and why it ends.
 use Rattle.std.proofs.Common.{length}
-use Rattle.replay_records.specs.Replay.{first_kind, last_kind}
 use Rattle.replay_records.proofs.ReplayLaws.{Completes}
 use Rattle.replay_records.proofs.replay_list.Given as goal
 
 abbrev pub invariant-loop-rest : goal.invariant-loop-rest
-invariant-loop-rest l = Completes (first_kind l.only) (last_kind l.only) l.list l.rest l.tally
+invariant-loop-rest l = Completes l.first l.last l.list l.rest l.tally
 
 abbrev pub decreases-loop-rest : goal.decreases-loop-rest
 decreases-loop-rest l = length l.rest
