@@ -101,6 +101,7 @@ pub fn replay_list(list: &[u8], first: usize, last: usize) -> Tally
 {
     let mut tally = Tally::default();
     let mut rest = list;
+    // A while, here and in first_difference: where the next record begins is known once this one is read.
     while !rest.is_empty() {
         let outcome = replay(rest);
         if is_counted(first, last, outcome.call) {

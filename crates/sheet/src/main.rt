@@ -78,6 +78,7 @@ fn write_out<W: Write>(writer: &mut W, bytes: &[u8]) -> io::Result<()>
     ensures again { IfErr result (λ e. error_kind e ≢ ErrorKind.Interrupted) }
 {
     let mut done = 0;
+    // To 2^64, as in the loops below: a signal may come any number of times, and a loop without an end would need a handle.
     for _ in 0..u64::MAX {
         if done == bytes.len() {
             return Ok(());

@@ -56,6 +56,7 @@ impl Stream {
         ensures { BlockFed self.old self.new block.now out.old.items out.new.items }
     {
         let mut rest = block;
+        // From line end to line end: with a step for each byte a refused line took twice the time.
         while let Some(end) = line_end(rest) {
             self.keep(&rest[..end]);
             end_line(&self.kept, out);
