@@ -33,11 +33,11 @@ black_column : (ℓ : ℕ) → 9 ≤ ℓ → black_at ℓ ≡ 10
 unfolding black_at
 black_column ℓ h = rw (le-ltb ℓ 9 h)
 
-row_placed : (r : ℕ) → r < 9 → Placed r (row_lane r)
-row_placed r h = record { within = omega arith; cells = λ p k. sym (cell_row r p h ∙ omega arith) }
+row_placed : (n r : ℕ) → r < 9 → Placed r (row_lane n r)
+row_placed n r h = record { within = omega arith; cells = λ p k. sym (cell_row r p h ∙ omega arith) }
 
-column_placed : (c : ℕ) → c < 9 → Placed (9 + c) (column_lane c)
-column_placed c h = record { within = omega arith; cells = λ p k. sym (cell_column (9 + c) p (omega arith) ∙ omega arith) }
+column_placed : (n c : ℕ) → c < 9 → Placed (9 + c) (column_lane n c)
+column_placed n c h = record { within = omega arith; cells = λ p k. sym (cell_column (9 + c) p (omega arith) ∙ omega arith) }
 
 module _ {n : ℕ} {ws l : List ℕ} {r c v : ℕ} (a : ArcAsk n ws l r c v) where
   narrow : v < 12
@@ -67,13 +67,13 @@ module _ {n : ℕ} {ws l : List ℕ} {r c v : ℕ} (a : ArcAsk n ws l r c v) whe
   column_cell : cell_at (9 + c) r ≡ r * 9 + c
   column_cell = cell_column (9 + c) r (omega arith) ∙ omega arith
 
-  pub row_ask : {lane : Lane} → lane ≡ row_lane r → LineAsk n lane.number lane c v ws l
+  pub row_ask : {lane : Lane} → lane ≡ row_lane n r → LineAsk lane.len lane.number lane c v ws l
   row_ask e =
       rw e (record {
         ready = a.ready;
         words = a.words;
         of = row_of;
-        placed = row_placed r r_low;
+        placed = row_placed n r r_low;
         black = sym (black_row r r_low);
         place = a.column;
         narrow = omega (arith, narrow);
@@ -81,13 +81,13 @@ module _ {n : ℕ} {ws l : List ℕ} {r c v : ℕ} (a : ArcAsk n ws l r c v) whe
         tallied = a.tallied r row_of;
       })
 
-  column_ask : LineAsk n (9 + c) (column_lane c) r v ws l
+  column_ask : LineAsk n (9 + c) (column_lane n c) r v ws l
   column_ask =
       record {
         ready = a.ready;
         words = a.words;
         of = column_of;
-        placed = column_placed c c_low;
+        placed = column_placed n c c_low;
         black = sym (black_column (9 + c) (omega arith));
         place = a.row;
         narrow = omega (arith, narrow);
@@ -164,13 +164,13 @@ module _ {n : ℕ} {ws l : List ℕ} {r c v : ℕ} (a : ArcAsk n ws l r c v) whe
 
 -- ---- as the code does it: the row, then the column
 
-module _ {n : ℕ} {ws l l₁ : List ℕ} {r c v : ℕ} {row column : Lane} (a : ArcAsk n ws l r c v) (e : row ≡ row_lane r) (d : LineDone n row.number c v l l₁)
-    (f : column ≡ column_lane c) where
+module _ {n : ℕ} {ws l l₁ : List ℕ} {r c v : ℕ} {row column : Lane} (a : ArcAsk n ws l r c v)
+    (e : row ≡ row_lane n r) (d : LineDone row.len row.number c v l l₁) (f : column ≡ column_lane n c) where
   row_done : LineDone n r c v l l₁
-  row_done = let o : row.number ≡ r = ap (λ (k : Lane). k.number) e in rw o at d
+  row_done = rw e at d
 
-  pub arc_column : LineAsk n column.number column r v ws l₁
+  pub arc_column : LineAsk column.len column.number column r v ws l₁
   arc_column = rw f (column_ask (arc_next a row_done))
 
-  pub arc_done : {l₂ : List ℕ} → LineDone n column.number r v l₁ l₂ → ArcDone n l l₂ r c v
-  arc_done {l₂} g = let o : column.number ≡ 9 + c = ap (λ (k : Lane). k.number) f in both_done a row_done (rw o at g)
+  pub arc_done : {l₂ : List ℕ} → LineDone column.len column.number r v l₁ l₂ → ArcDone n l l₂ r c v
+  arc_done g = both_done a row_done (rw f at g)

@@ -43,37 +43,37 @@ fn next_place(n: usize, p: usize) -> usize
 }
 
 // The supports of a word fall at its inner places.
-fn drop_inner(st: &mut [u16], n: usize, lane: Lane, w: u32)
-    requires { InnerAsk n lane.number lane w st.old }
+fn drop_inner(st: &mut [u16], lane: Lane, w: u32)
+    requires { InnerAsk lane.len lane.number lane w st.old }
     ensures { Sunk (inners lane.number w) st.old st.new }
 {
     let set = words::set_of(w);
     let to = words::to_of(w);
-    let mut p = next_place(n, words::from_of(w));
+    let mut p = next_place(lane.len, words::from_of(w));
     // A while, since the walk may go around the line's end: a count would need the same step, and how many steps there are.
     while p != to {
         drop_digits(st, lane, p, set);
-        p = next_place(n, p);
+        p = next_place(lane.len, p);
     }
 }
 
 // An arrangement leaves its line: its supports fall from end to end.
-fn kill(st: &mut [u16], n: usize, lane: Lane, w: u32)
-    requires { KillAsk n lane.number lane w st.old }
+fn kill(st: &mut [u16], lane: Lane, w: u32)
+    requires { KillAsk lane.len lane.number lane w st.old }
     ensures { Sunk (parts lane.number w) st.old st.new }
 {
     drop_support(st, lane, words::from_of(w), words::head_of(w, lane.first));
-    drop_inner(st, n, lane, w);
+    drop_inner(st, lane, w);
     drop_support(st, lane, words::to_of(w), words::last_of(w, lane.first));
 }
 
 // Arrangement i of the list leaves, and w is its word; the last one takes its place, and len are left.
-fn remove(st: &mut [u16], n: usize, lane: Lane, i: usize, len: usize, w: u32)
-    requires { RemoveAsk n lane.number lane i len w st.old }
-    ensures { Removed n lane.number i len st.old st.new }
+fn remove(st: &mut [u16], lane: Lane, i: usize, len: usize, w: u32)
+    requires { RemoveAsk lane.len lane.number lane i len w st.old }
+    ensures { Removed lane.len lane.number i len st.old st.new }
 {
     live_list::remove(st, Slab::LIVE + lane.number * Slab::PER_LINE, i, len);
-    kill(st, n, lane, w);
+    kill(st, lane, w);
 }
 
 // The word of arrangement i of a line's list.
@@ -100,38 +100,38 @@ fn keeps(w: u32, test: u32, have: u32, cands: u16) -> bool
 }
 
 // The places of a line that have the value v.
-fn having(st: &[u16], n: usize, lane: Lane, v: usize) -> u32
-    requires { HaveAsk n lane v st.now }
-    ensures { Have lane v st.now n result }
+fn having(st: &[u16], lane: Lane, v: usize) -> u32
+    requires { HaveAsk lane.len lane v st.now }
+    ensures { Have lane v st.now lane.len result }
 {
     let mut have = 0u32;
-    for q in 0..n {
+    for q in 0..lane.len {
         have |= u32::from((st[lane.start + q * lane.stride] >> v) % 2) << q;
     }
     have
 }
 
 // The same, if strikes were made since the queue had t of them.
-fn having_since(st: &[u16], n: usize, lane: Lane, v: usize, t: u16, have: u32) -> u32
-    requires { HaveAsk n lane v st.now × Have lane v st.now n have }
-    ensures { Have lane v st.now n result }
+fn having_since(st: &[u16], lane: Lane, v: usize, t: u16, have: u32) -> u32
+    requires { HaveAsk lane.len lane v st.now × Have lane v st.now lane.len have }
+    ensures { Have lane v st.now lane.len result }
 {
     if st[Slab::TAIL] == t {
         have
     } else {
-        having(st, n, lane, v)
+        having(st, lane, v)
     }
 }
 
 // The sweep for a digit that is struck at place p: the dead arrangements of the line leave. Gives how many are left.
 // Not one with sweep_black: this test goes on with `have` as removals strike, and a trait or a closure for the two tests is longer than the loop twice.
-fn sweep_digit(st: &mut [u16], words: &[u32], n: usize, lane: Lane, p: usize, v: usize) -> usize
-    requires { SweepAsk n lane.number lane p v words.now st.old × (v < 8) }
-    ensures { Swept n lane.number p v st.old st.new result }
+fn sweep_digit(st: &mut [u16], words: &[u32], lane: Lane, p: usize, v: usize) -> usize
+    requires { SweepAsk lane.len lane.number lane p v words.now st.old × (v < 8) }
+    ensures { Swept lane.len lane.number p v st.old st.new result }
 {
     let cell = lane.start + p * lane.stride;
     let test = digit_test(v, p);
-    let mut have = having(st, n, lane, v);
+    let mut have = having(st, lane, v);
     let mut i = 0;
     let mut len = usize::from(st[Slab::LENGTHS + lane.number]);
     // A while here and in sweep_black: where one leaves, len falls and i stays.
@@ -142,17 +142,17 @@ fn sweep_digit(st: &mut [u16], words: &[u32], n: usize, lane: Lane, p: usize, v:
         } else {
             let t = st[Slab::TAIL];
             len -= 1;
-            remove(st, n, lane, i, len, w);
-            have = having_since(st, n, lane, v, t, have);
+            remove(st, lane, i, len, w);
+            have = having_since(st, lane, v, t, have);
         }
     }
     len
 }
 
 // The sweep for a black that is struck at place p: the arrangements that have it there leave. Gives how many are left.
-fn sweep_black(st: &mut [u16], words: &[u32], n: usize, lane: Lane, p: usize, v: usize) -> usize
-    requires { SweepAsk n lane.number lane p v words.now st.old × (8 ≤ v) }
-    ensures { Swept n lane.number p v st.old st.new result }
+fn sweep_black(st: &mut [u16], words: &[u32], lane: Lane, p: usize, v: usize) -> usize
+    requires { SweepAsk lane.len lane.number lane p v words.now st.old × (8 ≤ v) }
+    ensures { Swept lane.len lane.number p v st.old st.new result }
 {
     let shift = words::black_shift(lane.first, v);
     let mut i = 0;
@@ -161,7 +161,7 @@ fn sweep_black(st: &mut [u16], words: &[u32], n: usize, lane: Lane, p: usize, v:
         let w = word_at(st, words, lane.number, i);
         if ((w >> shift) % 16) as usize == p {
             len -= 1;
-            remove(st, n, lane, i, len, w);
+            remove(st, lane, i, len, w);
         } else {
             i += 1;
         }
@@ -170,34 +170,34 @@ fn sweep_black(st: &mut [u16], words: &[u32], n: usize, lane: Lane, p: usize, v:
 }
 
 // The sweep for the value v that is struck at place p. Gives how many arrangements are left.
-fn sweep(st: &mut [u16], words: &[u32], n: usize, lane: Lane, p: usize, v: usize) -> usize
-    requires { SweepAsk n lane.number lane p v words.now st.old }
-    ensures { Swept n lane.number p v st.old st.new result }
+fn sweep(st: &mut [u16], words: &[u32], lane: Lane, p: usize, v: usize) -> usize
+    requires { SweepAsk lane.len lane.number lane p v words.now st.old }
+    ensures { Swept lane.len lane.number p v st.old st.new result }
 {
     if v < Value::BLACK1_ROW {
-        sweep_digit(st, words, n, lane, p, v)
+        sweep_digit(st, words, lane, p, v)
     } else {
-        sweep_black(st, words, n, lane, p, v)
+        sweep_black(st, words, lane, p, v)
     }
 }
 
 // The value v is struck at place p of a line: its dead arrangements leave.
-fn update_line(st: &mut [u16], words: &[u32], n: usize, lane: Lane, p: usize, v: usize)
-    requires { SweepAsk n lane.number lane p v words.now st.old }
-    ensures { LineDone n lane.number p v st.old st.new }
+fn update_line(st: &mut [u16], words: &[u32], lane: Lane, p: usize, v: usize)
+    requires { SweepAsk lane.len lane.number lane p v words.now st.old }
+    ensures { LineDone lane.len lane.number p v st.old st.new }
 {
-    let len = sweep(st, words, n, lane, p, v);
+    let len = sweep(st, words, lane, p, v);
     st[Slab::LENGTHS + lane.number] = len as u16;
 }
 
 // The same, if any of them has it there: a value of the other half has no support in the line. Inline, else LLVM takes the sweep in here: 8 % more work.
 #[inline(always)]
-fn update_supported(st: &mut [u16], words: &[u32], n: usize, lane: Lane, p: usize, v: usize)
-    requires { LineAsk n lane.number lane p v words.now st.old }
-    ensures { LineDone n lane.number p v st.old st.new }
+fn update_supported(st: &mut [u16], words: &[u32], lane: Lane, p: usize, v: usize)
+    requires { LineAsk lane.len lane.number lane p v words.now st.old }
+    ensures { LineDone lane.len lane.number p v st.old st.new }
 {
     if st[Slab::SUPPORT + (lane.number * 9 + p) * 16 + v] != 0 {
-        update_line(st, words, n, lane, p, v);
+        update_line(st, words, lane, p, v);
     }
 }
 
@@ -206,6 +206,6 @@ pub fn update_arc(st: &mut [u16], words: &[u32], n: usize, x: Candidate)
     requires { ArcAsk n words.now st.old x.row x.column x.value }
     ensures { ArcDone n st.old st.new x.row x.column x.value }
 {
-    update_supported(st, words, n, Lane::row(x.row), x.column, x.value);
-    update_supported(st, words, n, Lane::column(x.column), x.row, x.value);
+    update_supported(st, words, Lane::row(n, x.row), x.column, x.value);
+    update_supported(st, words, Lane::column(n, x.column), x.row, x.value);
 }

@@ -3,13 +3,13 @@ use Rattle.std.specs.Prelude.{ℕ, ◌+◌, ◌*◌, Bool, ◌&&◌, ◌||◌, l
 use Rattle.rules.specs.Mark.{left_black, upper_black}
 use Rattle.lane.specs.declared.Lane.{Lane}
 
--- Row r: its cells are next to each other.
-abbrev pub row_lane : ℕ → Lane
-row_lane r = record { number = r; start = r * 9; stride = 1; first = left_black }
+-- Row r with n cells, which are next to each other.
+abbrev pub row_lane : ℕ → ℕ → Lane
+row_lane n r = record { number = r; start = r * 9; stride = 1; first = left_black; len = n }
 
--- Column c: its cells are a row apart.
-abbrev pub column_lane : ℕ → Lane
-column_lane c = record { number = 9 + c; start = c; stride = 9; first = upper_black }
+-- Column c with n cells, which are a row apart.
+abbrev pub column_lane : ℕ → ℕ → Lane
+column_lane n c = record { number = 9 + c; start = c; stride = 9; first = upper_black; len = n }
 
 -- One of a line's own blacks.
 abbrev pub lane_black : Lane → ℕ → Bool

@@ -6,37 +6,40 @@ ghost use Rattle.lane.specs.Lanes.{row_lane, column_lane, lane_black, lane_value
 
 use value::Value;
 
-// Its number (row, or 9 + column), its first cell, the way from cell to cell, and its first black; the second black is the next value.
+// Its number (row, or 9 + column), its first cell, the way from cell to cell, its first black (the second is the next value), and how many cells it has.
 #[derive(Clone, Copy)]
 pub struct Lane {
     pub number: usize,
     pub start: usize,
     pub stride: usize,
     pub first: usize,
+    pub len: usize,
 }
 
 impl Lane {
-    pub fn row(r: usize) -> Lane
+    pub fn row(len: usize, r: usize) -> Lane
         requires { r < 9 }
-        ensures { result ≡ row_lane r }
+        ensures { result ≡ row_lane len r }
     {
         Lane {
             number: r,
             start: r * 9,
             stride: 1,
             first: Value::BLACK1_ROW,
+            len,
         }
     }
 
-    pub fn column(c: usize) -> Lane
+    pub fn column(len: usize, c: usize) -> Lane
         requires { c < 9 }
-        ensures { result ≡ column_lane c }
+        ensures { result ≡ column_lane len c }
     {
         Lane {
             number: 9 + c,
             start: c,
             stride: 9,
             first: Value::BLACK1_COL,
+            len,
         }
     }
 

@@ -161,14 +161,14 @@ module _ {n : ℕ} {ws rows columns l : List ℕ} (a : OpenAsk n ws rows columns
         (λ q _ f. d.rest q (λ j x. (f j (omega (arith, low)) (λ y. omega arith), f (9 + j) (omega (arith, low)) (λ y. omega (arith, low)))))
         (fresh_unlisted n i l a.fresh)
 
-    pub row_ask : {lane : Lane} (t : ℕ) → lane ≡ row_lane i → t ≡ r →
-        AddAsk n lane.number lane.first ws l₁ (numbers_for n t) × (t ≤ max_target n)
+    pub row_ask : {lane : Lane} (t : ℕ) → lane ≡ row_lane n i → t ≡ r →
+        AddAsk lane.len lane.number lane.first ws l₁ (numbers_for lane.len t) × (t ≤ max_target lane.len)
     row_ask t e f =
         let m : t ≤ max_target n = omega (arith, a.rows_within i h) in
         rw e (addable i 8 t (omega (arith, low)) (black_row i low) d.size m row_unlisted, m)
 
     -- and then the column
-    module _ {l₂ : List ℕ} {row : Lane} (t : ℕ) (e : row ≡ row_lane i) (f : t ≡ r) (s : Added n row.number l₁ l₂ (numbers_for n t)) where
+    module _ {l₂ : List ℕ} {row : Lane} (t : ℕ) (e : row ≡ row_lane n i) (f : t ≡ r) (s : Added row.len row.number l₁ l₂ (numbers_for row.len t)) where
       row_added : Added n i l₁ l₂ (numbers_for n r)
       row_added = rw (e, f) at s
 
@@ -180,14 +180,14 @@ module _ {n : ℕ} {ws rows columns l : List ℕ} (a : OpenAsk n ws rows columns
           ∙ d.rest q (λ j x. (f j (omega (arith, low)) (λ y. omega (arith, low)), f (9 + j) (omega (arith, low)) (λ y. omega arith))))
           (fresh_unlisted n (9 + i) l a.fresh)
 
-      pub column_ask : {lane : Lane} (u : ℕ) → lane ≡ column_lane i → u ≡ c →
-          AddAsk n lane.number lane.first ws l₂ (numbers_for n u) × (u ≤ max_target n)
+      pub column_ask : {lane : Lane} (u : ℕ) → lane ≡ column_lane n i → u ≡ c →
+          AddAsk lane.len lane.number lane.first ws l₂ (numbers_for lane.len u) × (u ≤ max_target lane.len)
       column_ask u g k =
           let m : u ≤ max_target n = omega (arith, a.columns_within i h) in
           rw g (addable (9 + i) 10 u (omega (arith, low)) (black_column (9 + i) (omega arith)) (row_added.size ∙ d.size) m column_unlisted, m)
 
-      pub listed_next : {l₃ : List ℕ} {lane : Lane} (u : ℕ) → lane ≡ column_lane i → u ≡ c → Added n lane.number l₂ l₃ (numbers_for n u) →
-          ListedTo n (i + 1) rows columns l l₃
+      pub listed_next : {l₃ : List ℕ} {lane : Lane} (u : ℕ) → lane ≡ column_lane n i → u ≡ c →
+          Added lane.len lane.number l₂ l₃ (numbers_for lane.len u) → ListedTo n (i + 1) rows columns l l₃
       listed_next {l₃} u g k z =
           record {
             size = w.size ∙ row_added.size ∙ d.size;

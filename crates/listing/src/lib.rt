@@ -48,24 +48,24 @@ fn add_inner(st: &mut [u16], n: usize, line: usize, w: u32)
 }
 
 // One more arrangement of a line has the pattern of a word.
-fn add_support(st: &mut [u16], n: usize, lane: Lane, w: u32)
-    requires { WordAsk n lane.number lane.first w st.old }
+fn add_support(st: &mut [u16], lane: Lane, w: u32)
+    requires { WordAsk lane.len lane.number lane.first w st.old }
     ensures { Raised lane.number st.old st.new (part lane.first w) }
 {
     raise_support(st, lane.number, first_of(w), lane.first);
     raise_support(st, lane.number, second_of(w), lane.first + 1);
-    add_inner(st, n, lane.number, w);
+    add_inner(st, lane.len, lane.number, w);
 }
 
 // An arrangement joins a line's list.
-fn add_arrangement(st: &mut [u16], words: &[u32], n: usize, lane: Lane, id: usize)
-    requires { AddAsk n lane.number lane.first words.now st.old (id ∷ []) × Known n id }
-    ensures { Added n lane.number st.old st.new (id ∷ []) }
+fn add_arrangement(st: &mut [u16], words: &[u32], lane: Lane, id: usize)
+    requires { AddAsk lane.len lane.number lane.first words.now st.old (id ∷ []) × Known lane.len id }
+    ensures { Added lane.len lane.number st.old st.new (id ∷ []) }
 {
     let k = usize::from(st[Slab::LENGTHS + lane.number]);
     st[Slab::LIVE + lane.number * Slab::PER_LINE + k] = id as u16;
     st[Slab::LENGTHS + lane.number] = (k + 1) as u16;
-    add_support(st, n, lane, words[id]);
+    add_support(st, lane, words[id]);
 }
 
 // The arrangements inside a line, or those that go around its end.
@@ -91,37 +91,37 @@ impl Side {
 }
 
 // The arrangements of subset s from each start of one side.
-fn list_starts(st: &mut [u16], words: &[u32], n: usize, lane: Lane, side: Side, s: usize)
-    requires { AddAsk n lane.number lane.first words.now st.old (starts_from n (is_outside side) s (size_in s) 0) × StartsAsk n s (size_in s) }
-    ensures { Added n lane.number st.old st.new (starts_from n (is_outside side) s (size_in s) 0) }
+fn list_starts(st: &mut [u16], words: &[u32], lane: Lane, side: Side, s: usize)
+    requires { AddAsk lane.len lane.number lane.first words.now st.old (starts_from lane.len (is_outside side) s (size_in s) 0) × StartsAsk lane.len s (size_in s) }
+    ensures { Added lane.len lane.number st.old st.new (starts_from lane.len (is_outside side) s (size_in s) 0) }
 {
     let len = usize::from(Subset::ALL[s] / 8192);
-    for start in side.starts(n, len) {
-        add_arrangement(st, words, n, lane, s * 9 + start);
+    for start in side.starts(lane.len, len) {
+        add_arrangement(st, words, lane, s * 9 + start);
     }
 }
 
 // The arrangements of one side whose digits have the sum that is wanted.
-fn list_side(st: &mut [u16], words: &[u32], n: usize, lane: Lane, side: Side, want: usize)
-    requires { AddAsk n lane.number lane.first words.now st.old (side_of n (is_outside side) want) × (want < 29) }
-    ensures { Added n lane.number st.old st.new (side_of n (is_outside side) want) }
+fn list_side(st: &mut [u16], words: &[u32], lane: Lane, side: Side, want: usize)
+    requires { AddAsk lane.len lane.number lane.first words.now st.old (side_of lane.len (is_outside side) want) × (want < 29) }
+    ensures { Added lane.len lane.number st.old st.new (side_of lane.len (is_outside side) want) }
 {
-    let top = 1u16 << (n - 1);
+    let top = 1u16 << (lane.len - 1);
     for s in from_sum(want)..from_sum(want + 1) {
         if Subset::ALL[s] % 256 < top {
-            list_starts(st, words, n, lane, side, s);
+            list_starts(st, words, lane, side, s);
         }
     }
 }
 
 // The arrangements of a line with a target: the inside ones have its sum, the outside ones leave it.
-fn list_line(st: &mut [u16], words: &[u32], n: usize, lane: Lane, target: usize)
-    requires { AddAsk n lane.number lane.first words.now st.old (numbers_for n target) × (target ≤ max_target n) }
-    ensures { Added n lane.number st.old st.new (numbers_for n target) }
+fn list_line(st: &mut [u16], words: &[u32], lane: Lane, target: usize)
+    requires { AddAsk lane.len lane.number lane.first words.now st.old (numbers_for lane.len target) × (target ≤ max_target lane.len) }
+    ensures { Added lane.len lane.number st.old st.new (numbers_for lane.len target) }
 {
-    let other = max_target(n) - target;
-    list_side(st, words, n, lane, Side::Inside, target);
-    list_side(st, words, n, lane, Side::Outside, other);
+    let other = max_target(lane.len) - target;
+    list_side(st, words, lane, Side::Inside, target);
+    list_side(st, words, lane, Side::Outside, other);
 }
 
 // Every line lists the arrangements of its target.
@@ -130,7 +130,7 @@ pub fn list_arrangements(st: &mut [u16], words: &[u32], n: usize, rows: &[u8], c
     ensures { LinesListed n rows.now columns.now st.old st.new }
 {
     for i in 0..n {
-        list_line(st, words, n, Lane::row(i), usize::from(rows[i]));
-        list_line(st, words, n, Lane::column(i), usize::from(columns[i]));
+        list_line(st, words, Lane::row(n, i), usize::from(rows[i]));
+        list_line(st, words, Lane::column(n, i), usize::from(columns[i]));
     }
 }

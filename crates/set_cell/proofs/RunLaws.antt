@@ -30,17 +30,17 @@ running_next {lane = lane} {a = a} {p = p} {v = v} g h s =
     one x w q (no e) = inl (record { place = q.place; low = q.low; high = omega (arith, q.high); there = q.there; value = q.value })
 
 -- a row and a column as lines: where a run's candidates are
-module _ {s a b u x w : ℕ} where
-  pub row_run : Run (row_lane s) a b u x w → b ≤ 9 → (x / 9 ≡ s) × (a ≤ x % 9) × (x % 9 < b)
+module _ {n s a b u x w : ℕ} where
+  pub row_run : Run (row_lane n s) a b u x w → b ≤ 9 → (x / 9 ≡ s) × (a ≤ x % 9) × (x % 9 < b)
   row_run q h = let p = q.place in omega (arith, q.low, q.high, q.there)
 
-  pub run_row : x / 9 ≡ s → a ≤ x % 9 → x % 9 < b → w ≡ u → Run (row_lane s) a b u x w
+  pub run_row : x / 9 ≡ s → a ≤ x % 9 → x % 9 < b → w ≡ u → Run (row_lane n s) a b u x w
   run_row e h k f = record { place = x % 9; low = h; high = k; there = omega arith; value = f }
 
-  pub column_run : Run (column_lane s) a b u x w → s < 9 → (x % 9 ≡ s) × (a ≤ x / 9) × (x / 9 < b)
+  pub column_run : Run (column_lane n s) a b u x w → s < 9 → (x % 9 ≡ s) × (a ≤ x / 9) × (x / 9 < b)
   column_run q h = let p = q.place in omega (arith, q.low, q.high, q.there)
 
-  pub run_column : x % 9 ≡ s → a ≤ x / 9 → x / 9 < b → w ≡ u → Run (column_lane s) a b u x w
+  pub run_column : x % 9 ≡ s → a ≤ x / 9 → x / 9 < b → w ≡ u → Run (column_lane n s) a b u x w
   run_column e h k f = record { place = x / 9; low = h; high = k; there = omega arith; value = f }
 
 pub row_inside : (r n : ℕ) → r < 9 → n ≤ 9 → Inside (r * 9) 1 n

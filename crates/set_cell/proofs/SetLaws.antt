@@ -36,27 +36,27 @@ module _ {n r c v : ℕ} {l : List ℕ} (a : SetAsk n l r c v) where
   pub ask_narrow : v < 16
   ask_narrow = omega (arith, ask_value)
 
-  pub ask_row : {lane : Lane} {u w : ℕ} → lane ≡ row_lane r → u < 16 → w < 16 → SidesAsk l n lane c u w
+  pub ask_row : {lane : Lane} {u w : ℕ} → lane ≡ row_lane n r → u < 16 → w < 16 → SidesAsk l lane.len lane c u w
   ask_row e h k =
       rw e (record { sized = a.ready.sized; before = h; behind = k; place = a.column; cells = row_inside r n (omega (arith, a.row, ask_high)) ask_high })
 
-  pub ask_column : {lane : Lane} {u w : ℕ} → lane ≡ column_lane c → u < 16 → w < 16 → SidesAsk l n lane r u w
+  pub ask_column : {lane : Lane} {u w : ℕ} → lane ≡ column_lane n c → u < 16 → w < 16 → SidesAsk l lane.len lane r u w
   ask_column e h k =
       rw e (record { sized = a.ready.sized; before = h; behind = k; place = a.row; cells = column_inside c n (omega (arith, a.column, ask_high)) ask_high })
 
 -- ---- the parts together
 module _ {n r c v m : ℕ} {l : List ℕ} (a : SetAsk n l r c v) (f : RestOfHalf v m) where
   Parts : ℕ → ℕ → Type 0
-  Parts x w = ((Others (row_lane r) n c v x w ⊎ Others (column_lane c) n r v x w) ⊎ Masked (r * 9 + c) m x w) ⊎ BlacksAround n r c v x w
+  Parts x w = ((Others (row_lane n r) n c v x w ⊎ Others (column_lane n c) n r v x w) ⊎ Masked (r * 9 + c) m x w) ⊎ BlacksAround n r c v x w
 
   high : n ≤ 9
   high = ask_high a
 
-  part_row : (x w : ℕ) → lane_value (row_lane r) v ≡ true → Sides (row_lane r) n c v v x w → Hits r c v (x / 9) (x % 9) w
+  part_row : (x w : ℕ) → lane_value (row_lane n r) v ≡ true → Sides (row_lane n r) n c v v x w → Hits r c v (x / 9) (x % 9) w
   part_row x w t (inl q) = let p = row_run q (omega (arith, high, a.column)) in along_row p.0 (omega (arith, p.2)) (sym (row_value v) ∙ t) q.value
   part_row x w t (inr q) = let p = row_run q high in along_row p.0 (omega (arith, p.1)) (sym (row_value v) ∙ t) q.value
 
-  part_column : (x w : ℕ) → lane_value (column_lane c) v ≡ true → Sides (column_lane c) n r v v x w → Hits r c v (x / 9) (x % 9) w
+  part_column : (x w : ℕ) → lane_value (column_lane n c) v ≡ true → Sides (column_lane n c) n r v v x w → Hits r c v (x / 9) (x % 9) w
   part_column x w t (inl q) = let p = column_run q (omega (arith, high, a.column)) in along_column p.0 (omega (arith, p.2)) (sym (column_value v (ask_value a).1) ∙ t) q.value
   part_column x w t (inr q) = let p = column_run q (omega (arith, high, a.column)) in along_column p.0 (omega (arith, p.1)) (sym (column_value v (ask_value a).1) ∙ t) q.value
 
@@ -64,7 +64,7 @@ module _ {n r c v m : ℕ} {l : List ℕ} (a : SetAsk n l r c v) (f : RestOfHalf
   part_cell x w h e b =
       let q = f.only w h b in in_cell (omega (arith, high, a.column)) (omega (arith, high, a.column)) q.0 q.1
 
-  part_blacks : (x w : ℕ) → 8 ≤ v → Sides (row_lane r) n c 9 8 x w ⊎ Sides (column_lane c) n r 11 10 x w → Hits r c v (x / 9) (x % 9) w
+  part_blacks : (x w : ℕ) → 8 ≤ v → Sides (row_lane n r) n c 9 8 x w ⊎ Sides (column_lane n c) n r 11 10 x w → Hits r c v (x / 9) (x % 9) w
   part_blacks x w h (inl (inl q)) = let p = row_run q (omega (arith, high, a.column)) in to_left h p.0 p.2 q.value
   part_blacks x w h (inl (inr q)) = let p = row_run q high in to_right h p.0 (omega (arith, p.1)) q.value
   part_blacks x w h (inr (inl q)) = let p = column_run q (omega (arith, high, a.column)) in above h p.0 p.2 q.value
@@ -104,7 +104,7 @@ module _ {n r c v m : ℕ} {l : List ℕ} (a : SetAsk n l r c v) (f : RestOfHalf
       back x w h t (yes e) = inl (to_parts x w (ready_valid a.ready x w h e) (strikes_hits r c v (x / 9) (x % 9) w t))
       back x w h t (no e) = inr (omega (arith, cand_lt l x w))
 
-  pub set_struck : {l₁ l₂ l₃ l₄ : List ℕ} → Struck l l₁ (Others (row_lane r) n c v) → Struck l₁ l₂ (Others (column_lane c) n r v) →
+  pub set_struck : {l₁ l₂ l₃ l₄ : List ℕ} → Struck l l₁ (Others (row_lane n r) n c v) → Struck l₁ l₂ (Others (column_lane n c) n r v) →
       Struck l₂ l₃ (Masked (r * 9 + c) m) → Struck l₃ l₄ (BlacksAround n r c v) → Struck l l₄ (SetHit r c v)
   unfolding Parts
   set_struck p q s t = struck_parts (struck_both (struck_both (struck_both p q) s) t)

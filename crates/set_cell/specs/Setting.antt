@@ -26,7 +26,7 @@ Others lane n i v x w = (lane_value lane v ≡ true) × Sides lane n i v v x w
 
 -- What a black leaves out: second blacks before it and first blacks behind it, in its row and in its column.
 abbrev pub BlacksAround : ℕ → ℕ → ℕ → ℕ → ℕ → ℕ → Type 0
-BlacksAround n r c v x w = (8 ≤ v) × (Sides (row_lane r) n c 9 8 x w ⊎ Sides (column_lane c) n r 11 10 x w)
+BlacksAround n r c v x w = (8 ≤ v) × (Sides (row_lane n r) n c 9 8 x w ⊎ Sides (column_lane n c) n r 11 10 x w)
 
 -- A mask of the other values of the half of v.
 pub record RestOfHalf (v m : ℕ) : Type 0 where

@@ -20,31 +20,31 @@ fn clear_run(st: &mut [u16], lane: Lane, a: usize, b: usize, v: usize)
     }
 }
 
-// Strikes u before place i of a line of n, and v behind it.
-fn clear_sides(st: &mut [u16], n: usize, lane: Lane, i: usize, u: usize, v: usize)
-    requires { SidesAsk st.old n lane i u v }
-    ensures { Struck st.old st.new (Sides lane n i u v) }
+// Strikes u before place i of a line, and v behind it.
+fn clear_sides(st: &mut [u16], lane: Lane, i: usize, u: usize, v: usize)
+    requires { SidesAsk st.old lane.len lane i u v }
+    ensures { Struck st.old st.new (Sides lane lane.len i u v) }
 {
     clear_run(st, lane, 0, i, u);
-    clear_run(st, lane, i + 1, n, v);
+    clear_run(st, lane, i + 1, lane.len, v);
 }
 
 // Strikes v at the other places of a line than i, if it is a value of the line's half.
-fn clear_others(st: &mut [u16], n: usize, lane: Lane, i: usize, v: usize)
-    requires { SidesAsk st.old n lane i v v }
-    ensures { Struck st.old st.new (Others lane n i v) }
+fn clear_others(st: &mut [u16], lane: Lane, i: usize, v: usize)
+    requires { SidesAsk st.old lane.len lane i v v }
+    ensures { Struck st.old st.new (Others lane lane.len i v) }
 {
     if lane.has(v) {
-        clear_sides(st, n, lane, i, v, v);
+        clear_sides(st, lane, i, v, v);
     }
 }
 
 // Strikes what a black at place i leaves out of a line: second blacks before it and first blacks behind it.
-fn clear_around(st: &mut [u16], n: usize, lane: Lane, i: usize)
-    requires { SidesAsk st.old n lane i (lane.first + 1) lane.first }
-    ensures { Struck st.old st.new (Sides lane n i (lane.first + 1) lane.first) }
+fn clear_around(st: &mut [u16], lane: Lane, i: usize)
+    requires { SidesAsk st.old lane.len lane i (lane.first + 1) lane.first }
+    ensures { Struck st.old st.new (Sides lane lane.len i (lane.first + 1) lane.first) }
 {
-    clear_sides(st, n, lane, i, lane.first + 1, lane.first);
+    clear_sides(st, lane, i, lane.first + 1, lane.first);
 }
 
 // The other values of the half of v; of a digit, of both halves.
@@ -64,13 +64,13 @@ pub fn set_cell(st: &mut [u16], n: usize, x: Candidate)
     requires { SetAsk n st.old x.row x.column x.value }
     ensures { Struck st.old st.new (SetHit x.row x.column x.value) }
 {
-    let row = Lane::row(x.row);
-    let column = Lane::column(x.column);
-    clear_others(st, n, row, x.column, x.value);
-    clear_others(st, n, column, x.row, x.value);
+    let row = Lane::row(n, x.row);
+    let column = Lane::column(n, x.column);
+    clear_others(st, row, x.column, x.value);
+    clear_others(st, column, x.row, x.value);
     clear_mask(st, x.cell(), rest_of_half(x.value));
     if Value::BLACK1_ROW <= x.value {
-        clear_around(st, n, row, x.column);
-        clear_around(st, n, column, x.row);
+        clear_around(st, row, x.column);
+        clear_around(st, column, x.row);
     }
 }

@@ -13,16 +13,16 @@ use set_cell::set_cell;
 use value::{Candidate, Value};
 
 // A strike of x: the counter of its cell's half of one of its lines falls, if x is of that half; a half with one candidate left is set to it.
-fn update_half(st: &mut [u16], n: usize, lane: Lane, x: Candidate, counters: usize, mask: u16)
-    requires { HalfAsk n st.old (lane_value lane x.value) (counters + (x.row * 9 + x.column)) (x.row * 9 + x.column) mask × (x.row < 9) × (x.column < 9) }
-    ensures { HalfDone n st.old st.new (lane_value lane x.value) (counters + (x.row * 9 + x.column)) (x.row * 9 + x.column) mask }
+fn update_half(st: &mut [u16], lane: Lane, x: Candidate, counters: usize, mask: u16)
+    requires { HalfAsk lane.len st.old (lane_value lane x.value) (counters + (x.row * 9 + x.column)) (x.row * 9 + x.column) mask × (x.row < 9) × (x.column < 9) }
+    ensures { HalfDone lane.len st.old st.new (lane_value lane x.value) (counters + (x.row * 9 + x.column)) (x.row * 9 + x.column) mask }
 {
     let cell = x.cell();
     if lane.has(x.value) && lower(st, counters + cell) == 1 {
         let left = st[cell] & mask;
         if left.count_ones() == 1 {
             let value = left.trailing_zeros() as usize;
-            set_cell(st, n, Candidate { value, ..x });
+            set_cell(st, lane.len, Candidate { value, ..x });
         }
     }
 }
@@ -32,28 +32,28 @@ pub fn update_singleton(st: &mut [u16], n: usize, x: Candidate)
     requires { SingletonAsk n st.old x.row x.column x.value }
     ensures { SingletonDone n st.old st.new x.row x.column x.value }
 {
-    let row = Lane::row(x.row);
-    let column = Lane::column(x.column);
-    update_half(st, n, row, x, Slab::ROW_HALF, Value::ROW_HALF);
-    update_half(st, n, column, x, Slab::COL_HALF, Value::COL_HALF);
+    let row = Lane::row(n, x.row);
+    let column = Lane::column(n, x.column);
+    update_half(st, row, x, Slab::ROW_HALF, Value::ROW_HALF);
+    update_half(st, column, x, Slab::COL_HALF, Value::COL_HALF);
 }
 
 // The first place of a line that has the candidate v.
-fn find_place(st: &[u16], n: usize, lane: Lane, v: usize) -> Option<usize>
-    requires { FindAsk st.now n lane.start lane.stride v }
-    ensures { PlaceFound st.now n lane.start lane.stride v result }
+fn find_place(st: &[u16], lane: Lane, v: usize) -> Option<usize>
+    requires { FindAsk st.now lane.len lane.start lane.stride v }
+    ensures { PlaceFound st.now lane.len lane.start lane.stride v result }
 {
-    (0..n).find(|&p| (st[lane.cell(p)] >> v) % 2 == 1)
+    (0..lane.len).find(|&p| (st[lane.cell(p)] >> v) % 2 == 1)
 }
 
 // The counter of a value's places in a line falls, if the line has the value; a value with one place left is set there.
-fn update_places(st: &mut [u16], n: usize, lane: Lane, v: usize)
-    requires { PlacesAsk n st.old (lane_value lane v) (places_at + lane.number * 16 + v) lane.start lane.stride v }
-    ensures { PlacesDone n st.old st.new (lane_value lane v) (places_at + lane.number * 16 + v) lane.start lane.stride v }
+fn update_places(st: &mut [u16], lane: Lane, v: usize)
+    requires { PlacesAsk lane.len st.old (lane_value lane v) (places_at + lane.number * 16 + v) lane.start lane.stride v }
+    ensures { PlacesDone lane.len st.old st.new (lane_value lane v) (places_at + lane.number * 16 + v) lane.start lane.stride v }
 {
     if lane.has(v) && lower(st, Slab::PLACES + lane.number * 16 + v) == 1 {
-        if let Some(place) = find_place(st, n, lane, v) {
-            set_cell(st, n, Candidate::at(lane.cell(place), v));
+        if let Some(place) = find_place(st, lane, v) {
+            set_cell(st, lane.len, Candidate::at(lane.cell(place), v));
         }
     }
 }
@@ -63,14 +63,14 @@ pub fn update_hidden_singles(st: &mut [u16], n: usize, x: Candidate)
     requires { HiddenAsk n st.old x.row x.column x.value }
     ensures { HiddenDone n st.old st.new x.row x.column x.value }
 {
-    update_places(st, n, Lane::row(x.row), x.value);
-    update_places(st, n, Lane::column(x.column), x.value);
+    update_places(st, Lane::row(n, x.row), x.value);
+    update_places(st, Lane::column(n, x.column), x.value);
 }
 
 // The counter of a cell's blacks of one line falls, if x is one of them; where none is left, those of the other line are struck.
-fn update_blacks(st: &mut [u16], n: usize, lane: Lane, x: Candidate, counters: usize, mask: u16)
-    requires { BlacksAsk n st.old (lane_black lane x.value) (counters + (x.row * 9 + x.column)) (x.row * 9 + x.column) mask × (x.row < 9) × (x.column < 9) }
-    ensures { BlacksDone n st.old st.new (lane_black lane x.value) (counters + (x.row * 9 + x.column)) (x.row * 9 + x.column) mask }
+fn update_blacks(st: &mut [u16], lane: Lane, x: Candidate, counters: usize, mask: u16)
+    requires { BlacksAsk lane.len st.old (lane_black lane x.value) (counters + (x.row * 9 + x.column)) (x.row * 9 + x.column) mask × (x.row < 9) × (x.column < 9) }
+    ensures { BlacksDone lane.len st.old st.new (lane_black lane x.value) (counters + (x.row * 9 + x.column)) (x.row * 9 + x.column) mask }
 {
     let cell = x.cell();
     if lane.has_black(x.value) && lower(st, counters + cell) == 0 {
@@ -83,8 +83,8 @@ pub fn update_black_consistency(st: &mut [u16], n: usize, x: Candidate)
     requires { ConsistencyAsk n st.old x.row x.column x.value }
     ensures { ConsistencyDone n st.old st.new x.row x.column x.value }
 {
-    let row = Lane::row(x.row);
-    let column = Lane::column(x.column);
-    update_blacks(st, n, row, x, Slab::ROW_BLACKS, Value::COL_BLACKS);
-    update_blacks(st, n, column, x, Slab::COL_BLACKS, Value::ROW_BLACKS);
+    let row = Lane::row(n, x.row);
+    let column = Lane::column(n, x.column);
+    update_blacks(st, row, x, Slab::ROW_BLACKS, Value::COL_BLACKS);
+    update_blacks(st, column, x, Slab::COL_BLACKS, Value::ROW_BLACKS);
 }
