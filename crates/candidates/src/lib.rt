@@ -4,6 +4,7 @@
 ghost use Rattle.std.specs.Prelude.{◌≡◌, ◌*◌, length};
 ghost use Rattle.rules.specs.Mark.{marks_of};
 ghost use Rattle.rules.specs.Grid.{puzzle};
+ghost use Rattle.puzzle.specs.Stands.{puzzle_of};
 ghost use Rattle.candidates.specs.Remaining.{TableGiven, Tabled};
 
 use engine::check_solve;
@@ -23,8 +24,8 @@ pub enum Outcome {
 
 // Writes the table of a question; false if a cell is left without candidates.
 fn write_table(q: Question, table: &mut [u16]) -> bool
-    requires { length table.old ≡ q.size * q.size }
-    ensures { Tabled (puzzle q.entry.size q.entry.rows.now q.entry.columns.now) (marks_of q.entry.marks.now) result table.old table.new }
+    requires { length table.old ≡ q.puzzle.size.n * q.puzzle.size.n }
+    ensures { Tabled (puzzle_of q.entry.puzzle) (marks_of q.entry.marks.now) result table.old table.new }
 {
     let mut st = [0u16; Slab::SIZE];
     let mut words = [0u32; 1152];
@@ -32,9 +33,9 @@ fn write_table(q: Question, table: &mut [u16]) -> bool
     if !prepared {
         return false;
     }
-    let rests = propagate(&mut st, &words, q.size);
+    let rests = propagate(&mut st, &words, q.puzzle.size.n);
     if rests {
-        write_candidates(&st, q.size, table);
+        write_candidates(&st, q.puzzle.size.n, table);
         return true;
     }
     false
@@ -52,13 +53,7 @@ pub fn candidates(
     ensures { TableGiven unit (puzzle size rows.now columns.now) (marks_of marks.now)
         result table.old table.new }
 {
-    check_solve(unit, size, rows, columns, marks, table.len())?;
-    let question = Question {
-        size,
-        rows,
-        columns,
-        marks,
-    };
+    let question = check_solve(unit, size, rows, columns, marks, table.len())?;
     if write_table(question, table) {
         Ok(Outcome::Written)
     } else {

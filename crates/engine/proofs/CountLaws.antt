@@ -5,15 +5,16 @@ use mathlib.Core.Bool.{Bool, false}
 use mathlib.Core.List.{List}
 use native.Mathlib.Omega.{arith}
 use lib.ListN.{length}
-use Rattle.rules.proofs.CheckLaws.{checked_skip, checked_stop, refusal_none, refusal_none_left, refusal_none_right}
+use Rattle.rules.proofs.CheckLaws.{checked_skip, checked_stop, passed_number, refusal_none, refusal_none_left, refusal_none_right}
 use Rattle.std.specs.Prelude.{Ok, Err}
 use Rattle.refusal.specs.declared.Refusal.{Refusal}
 use Rattle.refusal.specs.declared.Refusal.TheVariants.{ListLimit}
 use Rattle.units.specs.declared.Unit.{Unit}
 use Rattle.units.specs.Limits.{takes_list}
-use Rattle.rules.specs.Grid.{Puzzle, puzzle}
+use Rattle.rules.specs.Grid.{Puzzle}
 use Rattle.rules.specs.Mark.{marks_of}
 use Rattle.puzzle.specs.Accepted.{AcceptedPuzzle}
+use Rattle.puzzle.specs.Stands.{puzzle_of}
 use Rattle.rules.specs.Check.{checked, refusal, puzzle_checks, count_checks}
 use Rattle.rules.specs.CheckParts.{mark_checks, list_checks}
 use Rattle.rules.specs.Number.{number, capped}
@@ -40,13 +41,17 @@ module _ (u : Unit) (p : Puzzle) (ms : List ℕ) where
   unfolding count_checks
   refused_list d = sym (checked_skip (puzzle_checks u p) (list_checks u p.size ms) (sym d))
 
+-- the marks of a list that is not refused
+pub list_passed : (u : Unit) (n : ℕ) (ms : List ℕ) → Ok tt ≡ checked (list_checks u n ms) → refusal (mark_checks n ms) ≡ 0
+list_passed u n ms d = (refusal_none ListLimit (takes_list u (length ms)) (mark_checks n ms) (passed_number (list_checks u n ms) (sym d))).1
+
 -- a puzzle and marks that are not refused, whatever the unit
 pub record CountAsk (p : Puzzle) (ms : List ℕ) : Type 0 where
   pub puzzle : AcceptedPuzzle p
   pub marks : refusal (mark_checks p.size ms) ≡ 0
 
-pub question_asks : (q : Question) → CountAsk (puzzle q.size q.rows.now q.columns.now) (marks_of q.marks.now)
-question_asks q = record { puzzle = q.puzzle_passes; marks = q.marks_pass }
+pub question_asks : (q : Question) → CountAsk (puzzle_of q.puzzle) (marks_of q.marks.now)
+question_asks q = record { puzzle = q.puzzle.accepted; marks = q.marks_pass }
 
 -- what a unit does not refuse
 pub count_asked : (u : Unit) (p : Puzzle) (ms : List ℕ) → refusal (count_checks u p ms) ≡ 0 → CountAsk p ms

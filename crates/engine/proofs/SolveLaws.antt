@@ -14,11 +14,11 @@ use Rattle.refusal.specs.Number.{number_of}
 use Rattle.units.specs.declared.Unit.{Unit}
 use Rattle.rules.proofs.CheckLaws.{lacks, numbered, number_positive, passed_number, checked_skip, checked_stop, refusal_none, refusal_none_left, refusal_none_right, lacks_append}
 use Rattle.rules.proofs.UnitLaws.{marks_lack}
-use Rattle.rules.specs.Size.{Size}
-use Rattle.rules.specs.Grid.{Puzzle, puzzle}
+use Rattle.rules.specs.Grid.{Puzzle}
 use Rattle.rules.specs.Check.{check_buffer, checked, refusal, puzzle_checks, count_checks, solve_checks}
 use Rattle.rules.specs.CheckParts.{list_checks}
 use Rattle.rules.specs.Number.{number, capped}
+use Rattle.puzzle.specs.Stands.{puzzle_of}
 use Rattle.puzzle.proofs.PuzzleLaws.{puzzle_numbered}
 use Rattle.soundness.specs.SameGrids.{Within}
 use Rattle.soundness.proofs.MarkLaws.{within_solution}
@@ -59,15 +59,12 @@ module _ (u : Unit) (p : Puzzle) (ms : List ℕ) (len : ℕ) where
     unfolding checked
     refused_0 l = sym (past ∙ rw (eq-eqb len (p.size * p.size) l))
 
-pub refused_small : (u : Unit) (n : ℕ) (rows columns ms : List ℕ) → Ok tt ≡ checked (count_checks u (puzzle n rows columns) ms) → Size n
-refused_small u n rows columns ms d = (count_asked u (puzzle n rows columns) ms (passed_number _ (sym d))).puzzle.size
-
 -- a puzzle, marks and a cell buffer that are not refused, whatever the unit
 pub record SolveAsk (p : Puzzle) (ms : List ℕ) (len : ℕ) : Type 0 where
   pub count : CountAsk p ms
   pub room : len ≡ p.size * p.size
 
-pub question_solves : (q : Question) {len : ℕ} → len ≡ q.size * q.size → SolveAsk (puzzle q.size q.rows.now q.columns.now) (marks_of q.marks.now) len
+pub question_solves : (q : Question) {len : ℕ} → len ≡ q.puzzle.size.n * q.puzzle.size.n → SolveAsk (puzzle_of q.puzzle) (marks_of q.marks.now) len
 question_solves q e = record { count = question_asks q; room = e }
 
 -- what a unit does not refuse

@@ -3,14 +3,17 @@
 
 ghost use Rattle.std.specs.Prelude.{◌≡◌, ◌*◌, true, length};
 ghost use Rattle.rules.specs.Mark.{marks_of};
-ghost use Rattle.rules.specs.Check.{checked, count_checks, solve_checks};
+ghost use Rattle.rules.specs.Check.{count_checks, solve_checks};
 ghost use Rattle.rules.specs.Grid.{puzzle};
+ghost use Rattle.puzzle.specs.Accepted.{Passed};
+ghost use Rattle.puzzle.specs.Stands.{puzzle_of};
+ghost use Rattle.prepare.specs.Asked.{Asks};
 ghost use Rattle.engine.specs.Answer.{count_answer, verdict_on, solve_answer, Found, SolveWritten};
 
 use backtrack::search;
 use mark_list::check_list;
 use prepare::{Question, prepare};
-use puzzle::check_puzzle;
+use puzzle::Puzzle;
 use queue_state::Slab;
 use refusal::Refusal;
 use units::Unit;
@@ -23,32 +26,33 @@ pub enum Verdict {
     Multiple,
 }
 
-// The checks of a puzzle and its marks.
-fn check_count(
+// The question of a puzzle and its marks, if they pass their checks.
+fn check_count<'a>(
     unit: Unit,
     n: usize,
-    rows: &[u8],
-    columns: &[u8],
-    marks: &[u8],
-) -> Result<(), Refusal>
-    ensures { result ≡ checked (count_checks unit (puzzle n rows.now columns.now) (marks_of marks.now)) }
+    rows: &'a [u8],
+    columns: &'a [u8],
+    marks: &'a [u8],
+) -> Result<Question<'a>, Refusal>
+    ensures { Passed (count_checks unit (puzzle n rows.now columns.now) (marks_of marks.now))
+        (Asks (puzzle n rows.now columns.now) (marks_of marks.now)) result }
 {
-    check_puzzle(unit, n, rows, columns)?;
-    check_list(unit, n, marks)
+    let puzzle = Puzzle::try_new(unit, n, rows, columns)?;
+    check_list(unit, puzzle.size, marks)?;
+    Ok(Question { puzzle, marks })
 }
 
 // The number of a question's grids, at most max; the first is written if it is wanted.
 fn find_grids(q: Question, max: u64, wanted: bool, cells: &mut [u8]) -> u64
-    requires { wanted ≡ true → length cells.old ≡ q.size * q.size }
-    ensures { Found (puzzle q.entry.size q.entry.rows.now q.entry.columns.now) (marks_of q.entry.marks.now)
-        max wanted result cells.old cells.new }
+    requires { wanted ≡ true → length cells.old ≡ q.puzzle.size.n * q.puzzle.size.n }
+    ensures { Found (puzzle_of q.entry.puzzle) (marks_of q.entry.marks.now) max wanted result cells.old cells.new }
 {
     let mut st = [0u16; Slab::SIZE];
     let mut words = [0u32; 1152];
     if !prepare(&mut st, &mut words, q) {
         return 0;
     }
-    search(&mut st, &words, q.size, max, wanted, cells)
+    search(&mut st, &words, q.puzzle.size.n, max, wanted, cells)
 }
 
 // The number of grids that keep the puzzle and the marks, at most the cap.
@@ -62,31 +66,27 @@ pub fn count(
 ) -> Result<u64, Refusal>
     ensures { result ≡ count_answer unit (puzzle size rows.now columns.now) (marks_of marks.now) cap }
 {
-    check_count(unit, size, rows, columns, marks)?;
-    let question = Question {
-        size,
-        rows,
-        columns,
-        marks,
-    };
+    let question = check_count(unit, size, rows, columns, marks)?;
     let mut cells = [0u8; 1];
     Ok(find_grids(question, cap, false, &mut cells))
 }
 
-// The checks of a puzzle, its marks and a cell buffer.
-pub fn check_solve(
+// The same with a cell buffer of the size.
+pub fn check_solve<'a>(
     unit: Unit,
     n: usize,
-    rows: &[u8],
-    columns: &[u8],
-    marks: &[u8],
+    rows: &'a [u8],
+    columns: &'a [u8],
+    marks: &'a [u8],
     len: usize,
-) -> Result<(), Refusal>
-    ensures { result ≡ checked (solve_checks unit (puzzle n rows.now columns.now) (marks_of marks.now) len) }
+) -> Result<Question<'a>, Refusal>
+    ensures { Passed (solve_checks unit (puzzle n rows.now columns.now) (marks_of marks.now) len)
+        (λ q. Asks (puzzle n rows.now columns.now) (marks_of marks.now) q × (len ≡ q.puzzle.size.n * q.puzzle.size.n)) result }
 {
-    check_count(unit, n, rows, columns, marks)?;
-    if len == n * n {
-        Ok(())
+    let question = check_count(unit, n, rows, columns, marks)?;
+    let size = question.puzzle.size;
+    if len == size.n * size.n {
+        Ok(question)
     } else {
         Err(Refusal::CellsLength)
     }
@@ -114,12 +114,6 @@ pub fn solve(
     ensures { (result ≡ solve_answer unit (puzzle size rows.now columns.now) (marks_of marks.now) (length cells.old))
         × SolveWritten unit (puzzle size rows.now columns.now) (marks_of marks.now) cells.old cells.new }
 {
-    check_solve(unit, size, rows, columns, marks, cells.len())?;
-    let question = Question {
-        size,
-        rows,
-        columns,
-        marks,
-    };
+    let question = check_solve(unit, size, rows, columns, marks, cells.len())?;
     Ok(verdict_of(find_grids(question, 2, true, cells)))
 }

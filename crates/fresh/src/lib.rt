@@ -2,9 +2,9 @@
 #![tactic(auto)]
 
 ghost use Rattle.std.specs.Prelude.{◌≡◌, ◌+◌, ◌*◌, ◌≤◌, ◌<◌, length};
-ghost use Rattle.rules.specs.Size.{Size};
 ghost use Rattle.fresh.specs.Fresh.{Blank, RowsFull, Fresh};
 
+use grid_size::GridSize;
 use queue_state::Slab;
 use value::Value;
 
@@ -18,11 +18,11 @@ fn fill_cells(st: &mut [u16], n: usize, full: u16)
     }
 }
 
-pub fn fresh(st: &mut [u16], n: usize)
-    requires { Blank st.old × Size n }
-    ensures { Fresh n st.new }
+pub fn fresh(st: &mut [u16], size: GridSize)
+    requires { Blank st.old }
+    ensures { Fresh size.n st.new }
 {
-    fill_cells(st, n, Value::full_cell(n));
-    st[Slab::ROW_HALF..Slab::ROW_BLACKS].fill(n as u16);
+    fill_cells(st, size.n, Value::full_cell(size));
+    st[Slab::ROW_HALF..Slab::ROW_BLACKS].fill(size.n as u16);
     st[Slab::ROW_BLACKS..Slab::LENGTHS].fill(2);
 }

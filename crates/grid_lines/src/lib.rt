@@ -2,7 +2,8 @@
 #![tactic(auto)]
 
 ghost use Rattle.std.specs.Prelude.{◌≡◌, ℕ, ◌+◌, ◌*◌, ◌≤◌, ◌<◌, length, get_or};
-ghost use Rattle.rules.specs.Size.{Size};
+
+use grid_size::GridSize;
 
 // A line of at most nine cells: its first cell, the way from cell to cell, and how many it has.
 #[derive(Clone, Copy)]
@@ -37,29 +38,29 @@ pub struct Lines<'a> {
 }
 
 impl<'a> Lines<'a> {
-    // The rows of n * n cells.
-    pub fn rows(cells: &'a [u8], n: usize) -> Lines<'a>
-        requires { Size n × (length cells.now ≡ n * n) }
-        ensures { (result.cells.now ≡ cells.now) × (result.step ≡ n) × (result.stride ≡ 1) × (result.count ≡ n) }
+    // The rows of a grid of n * n cells.
+    pub fn rows(cells: &'a [u8], size: GridSize) -> Lines<'a>
+        requires { length cells.now ≡ size.n * size.n }
+        ensures { (result.cells.now ≡ cells.now) × (result.step ≡ size.n) × (result.stride ≡ 1) × (result.count ≡ size.n) }
     {
         Lines {
             cells,
-            step: n,
+            step: size.n,
             stride: 1,
-            count: n,
+            count: size.n,
         }
     }
 
     // Their columns.
-    pub fn columns(cells: &'a [u8], n: usize) -> Lines<'a>
-        requires { Size n × (length cells.now ≡ n * n) }
-        ensures { (result.cells.now ≡ cells.now) × (result.step ≡ 1) × (result.stride ≡ n) × (result.count ≡ n) }
+    pub fn columns(cells: &'a [u8], size: GridSize) -> Lines<'a>
+        requires { length cells.now ≡ size.n * size.n }
+        ensures { (result.cells.now ≡ cells.now) × (result.step ≡ 1) × (result.stride ≡ size.n) × (result.count ≡ size.n) }
     {
         Lines {
             cells,
             step: 1,
-            stride: n,
-            count: n,
+            stride: size.n,
+            count: size.n,
         }
     }
 

@@ -1,14 +1,16 @@
 -- The lines list their arrangements, one after the other. Assumes nothing.
 use Prim.Native.Nat.{ℕ, zero, suc, ◌+◌, ◌-◌, ◌*◌, ◌≤◌, ◌<◌}
-use mathlib.Core.Path.{◌≡◌, sym, ap, ◌∙◌}
+use mathlib.Core.Path.{◌≡◌, sym, ap, ◌∙◌, subst}
 use mathlib.Core.Logic.{⊎_elim}
 use mathlib.Core.Bool.{true, false}
-use mathlib.Core.List.{List, ◌++◌, map, map-map}
+use mathlib.Core.List.{List, [], ◌∷◌, ◌++◌, map, map-map}
 use native.Mathlib.Omega.{arith}
 use native.Mathlib.Decide.{ℕ_discrete}
 use lib.ListN.{length, get_or}
-use borrow.Author.Tests.{lt-ltb, le-ltb}
-use Rattle.tally.specs.Tally.{span}
+use lib.Dec.{leb}
+use borrow.Author.Tests.{lt-ltb, le-ltb, leb-true}
+use Rattle.tally.specs.Tally.{all, span}
+use Rattle.tally.proofs.TallyLaws.{and_left, and_right}
 use Rattle.tally.specs.Tally as tally
 use Rattle.bits.specs.Sum.{sum_over}
 use Rattle.bits.proofs.SumLaws.{sum_zero, sum_first, sum_same}
@@ -17,7 +19,8 @@ use Rattle.rules.specs.Check.{max_target}
 use Rattle.rules.proofs.SizeLaws.{target_most}
 use Rattle.lane.specs.declared.Lane.{Lane}
 use Rattle.lane.specs.Lanes.{row_lane, column_lane}
-use Rattle.words.specs.Word.{arrangement_of, word_of, part}
+use Rattle.puzzle.specs.declared.Puzzle.{Puzzle}
+use Rattle.words.specs.Word.{arrangement_of, word_of, part, Words}
 use Rattle.fresh.specs.Fresh.{Fresh}
 use Rattle.arcs.specs.Arc.{lives, live, support}
 use Rattle.table.specs.Lines.{black_at, LineOf}
@@ -26,6 +29,37 @@ use Rattle.listing.specs.Numbers.{side_of, numbers_for}
 use Rattle.listing.proofs.NumberFacts.{numbers_few, numbers_are, numbers_known}
 use Rattle.listing.specs.Listing.{list_of, Elsewhere, Added, AddAsk, Unlisted, Lists, target_at, OpenAsk, LinesListed}
 use Rattle.listing.proofs.AddLaws.{map_same, added_lives, added_both, addable_first, addable_after}
+
+-- each target is in range
+within : (m : ℕ) (ts : List ℕ) → all (λ t. leb t m) ts ≡ true → (i : ℕ) → i < length ts → get_or ts i 0 ≤ m
+unfolding all
+within m [] e i h = absurd (omega arith)
+within m (t ∷ ts) e zero h = leb-true t m (and_left (leb t m) _ e)
+within m (t ∷ ts) e (suc i) h = within m ts (and_right (leb t m) _ e) i (omega arith)
+
+-- What opening goes by: the fresh state, the words of the size, and a target in range for each row and each column.
+pub record Listable (n : ℕ) (ws rows columns l : List ℕ) : Type 0 where
+  pub size : Size n
+  pub fresh : Fresh n l
+  pub words : Words n ws
+  pub rows_long : length rows ≡ n
+  pub columns_long : length columns ≡ n
+  pub rows_within : (i : ℕ) → i < n → get_or rows i 0 ≤ max_target n
+  pub columns_within : (i : ℕ) → i < n → get_or columns i 0 ≤ max_target n
+
+-- A puzzle that passed the checks has it.
+pub listable : (p : Puzzle) {ws l : List ℕ} → OpenAsk p.size.n ws l → Listable p.size.n ws p.rows.now p.columns.now l
+listable p a =
+    let g = p.accepted in
+    record {
+      size = g.size;
+      fresh = a.fresh;
+      words = a.words;
+      rows_long = g.rows_long;
+      columns_long = g.columns_long;
+      rows_within = λ i h. within (max_target p.size.n) p.rows.now g.rows_within i (subst (λ k. i < k) (sym g.rows_long) h);
+      columns_within = λ i h. within (max_target p.size.n) p.columns.now g.columns_within i (subst (λ k. i < k) (sym g.columns_long) h);
+    }
 
 -- ---- one line: the inside ones, then the outside ones
 
@@ -131,7 +165,7 @@ pub record ListedTo (n k : ℕ) (rows columns l l' : List ℕ) : Type 0 where
   pub column : (i : ℕ) → i < k → Lists n (9 + i) (get_or columns i 0) l'
   pub rest : (q : ℕ) → ((i : ℕ) → i < k → Elsewhere i q × Elsewhere (9 + i) q) → get_or l' q 0 ≡ get_or l q 0
 
-module _ {n : ℕ} {ws rows columns l : List ℕ} (a : OpenAsk n ws rows columns l) where
+module _ {n : ℕ} {ws rows columns l : List ℕ} (a : Listable n ws rows columns l) where
   -- a line that lists nothing can list the arrangements of its target
   addable : {l' : List ℕ} (ℓ k t : ℕ) → ℓ < 18 → k ≡ black_at ℓ → length l' ≡ length l → t ≤ max_target n → Unlisted ℓ l' → AddAsk n ℓ k ws l' (numbers_for n t)
   addable ℓ k t h b long m u =

@@ -5,7 +5,6 @@ use Rattle.tally.specs.Tally as tally
 use Rattle.bits.specs.Bit.{bit}
 use Rattle.bits.specs.Sum.{sum_over, same}
 use Rattle.rules.specs.Size.{Size}
-use Rattle.rules.specs.Check.{max_target}
 use Rattle.table.specs.Closed.{arrangements}
 use Rattle.words.specs.Word.{Known, arrangement_of, word_of, mask_in, set_of, inner_of, part, Shaped, Words}
 use Rattle.arcs.specs.Arc.{lives, live, support}
@@ -114,15 +113,10 @@ pub record Lists (n ℓ t : ℕ) (l : List ℕ) : Type 0 where
 unfoldable pub target_at : List ℕ → List ℕ → ℕ → ℕ
 target_at rows columns ℓ = cond (ltb ℓ 9) (get_or rows ℓ 0) (get_or columns (ℓ - 9) 0)
 
--- What opening needs: the fresh state, the words of the size, and a target in range for each row and each column.
-pub record OpenAsk (n : ℕ) (ws rows columns l : List ℕ) : Type 0 where
-  pub size : Size n
+-- What opening needs of the memory: the fresh state and the words of the size.
+pub record OpenAsk (n : ℕ) (ws l : List ℕ) : Type 0 where
   pub fresh : Fresh n l
   pub words : Words n ws
-  pub rows_long : length rows ≡ n
-  pub columns_long : length columns ≡ n
-  pub rows_within : (i : ℕ) → i < n → get_or rows i 0 ≤ max_target n
-  pub columns_within : (i : ℕ) → i < n → get_or columns i 0 ≤ max_target n
 
 -- Each line lists its arrangements, and nothing but lists and supports moved.
 pub record LinesListed (n : ℕ) (rows columns l l' : List ℕ) : Type 0 where

@@ -8,8 +8,9 @@ ghost use Rattle.listing.specs.Numbers.{starts_from, side_of, numbers_for};
 ghost use Rattle.listing.specs.Sides.{is_outside, StartsAre};
 ghost use Rattle.listing.specs.Listing.{Raised, one_at, digits_at, inner_to, RaiseAsk, WordAsk, Added, AddAsk, StartsAsk, OpenAsk, LinesListed};
 
+use grid_size::GridSize;
 use lane::Lane;
-use puzzle::max_target;
+use puzzle::Puzzle;
 use queue_state::Slab;
 use std::ops::Range;
 use value::Bits;
@@ -119,18 +120,20 @@ fn list_line(st: &mut [u16], words: &[u32], lane: Lane, target: usize)
     requires { AddAsk lane.len lane.number lane.first words.now st.old (numbers_for lane.len target) × (target ≤ max_target lane.len) }
     ensures { Added lane.len lane.number st.old st.new (numbers_for lane.len target) }
 {
-    let other = max_target(lane.len) - target;
+    let size = GridSize { n: lane.len };
+    let other = size.max_target() - target;
     list_side(st, words, lane, Side::Inside, target);
     list_side(st, words, lane, Side::Outside, other);
 }
 
 // Every line lists the arrangements of its target.
-pub fn list_arrangements(st: &mut [u16], words: &[u32], n: usize, rows: &[u8], columns: &[u8])
-    requires { OpenAsk n words.now rows.now columns.now st.old }
-    ensures { LinesListed n rows.now columns.now st.old st.new }
+pub fn list_arrangements(st: &mut [u16], words: &[u32], p: Puzzle)
+    requires { OpenAsk p.size.n words.now st.old }
+    ensures { LinesListed p.entry.size.n p.entry.rows.now p.entry.columns.now st.old st.new }
 {
+    let n = p.size.n;
     for i in 0..n {
-        list_line(st, words, Lane::row(n, i), usize::from(rows[i]));
-        list_line(st, words, Lane::column(n, i), usize::from(columns[i]));
+        list_line(st, words, Lane::row(n, i), usize::from(p.rows[i]));
+        list_line(st, words, Lane::column(n, i), usize::from(p.columns[i]));
     }
 }

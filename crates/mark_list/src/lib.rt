@@ -5,9 +5,9 @@ ghost use Rattle.std.specs.Prelude.{◌≡◌, ◌+◌, ◌*◌, ◌≤◌, ◌<
 ghost use Rattle.rules.specs.Mark.{marks_of};
 ghost use Rattle.rules.specs.Check.{checked, check_mark};
 ghost use Rattle.rules.specs.CheckParts.{mark_checks, list_checks};
-ghost use Rattle.rules.specs.Size.{Size};
 ghost use Rattle.mark_list.specs.Unpacked.{unpacked, word_at};
 
+use grid_size::GridSize;
 use refusal::Refusal;
 use units::Unit;
 use value::{Candidate, Value};
@@ -56,22 +56,21 @@ pub fn mark_at(bytes: &[u8], i: usize) -> u16
 }
 
 // The checks of a mark.
-fn check_mark(n: usize, word: u16) -> Result<(), Refusal>
-    requires { Size n }
-    ensures { result ≡ checked (check_mark n word) }
+fn check_mark(size: GridSize, word: u16) -> Result<(), Refusal>
+    ensures { result ≡ checked (check_mark size.n word) }
 {
     let x = Mark::unpack(word).candidate;
     if word % 8 != 0 {
         return Err(Refusal::MarkSpare);
     }
-    if n <= x.row {
+    if size.n <= x.row {
         return Err(Refusal::MarkPlace);
     }
-    if n <= x.column {
+    if size.n <= x.column {
         return Err(Refusal::MarkPlace);
     }
     let v = Value { code: x.value };
-    if v.is_named(n) {
+    if v.is_named(size) {
         Ok(())
     } else {
         Err(Refusal::MarkValue)
@@ -79,23 +78,21 @@ fn check_mark(n: usize, word: u16) -> Result<(), Refusal>
 }
 
 // The checks of the marks, mark by mark.
-fn check_marks(n: usize, bytes: &[u8]) -> Result<(), Refusal>
-    requires { Size n }
-    ensures { result ≡ checked (mark_checks n (marks_of bytes.now)) }
+fn check_marks(size: GridSize, bytes: &[u8]) -> Result<(), Refusal>
+    ensures { result ≡ checked (mark_checks size.n (marks_of bytes.now)) }
 {
     for i in 0..mark_count(bytes.len()) {
-        check_mark(n, mark_at(bytes, i))?;
+        check_mark(size, mark_at(bytes, i))?;
     }
     Ok(())
 }
 
 // The checks of a list of marks in a unit: its length is asked before any mark.
-pub fn check_list(unit: Unit, n: usize, bytes: &[u8]) -> Result<(), Refusal>
-    requires { Size n }
-    ensures { result ≡ checked (list_checks unit n (marks_of bytes.now)) }
+pub fn check_list(unit: Unit, size: GridSize, bytes: &[u8]) -> Result<(), Refusal>
+    ensures { result ≡ checked (list_checks unit size.n (marks_of bytes.now)) }
 {
     if !unit.takes_list(mark_count(bytes.len())) {
         return Err(Refusal::ListLimit);
     }
-    check_marks(n, bytes)
+    check_marks(size, bytes)
 }

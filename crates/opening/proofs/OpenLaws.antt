@@ -26,9 +26,9 @@ use Rattle.words.proofs.WordLaws.{known_subset, known_fields}
 use Rattle.words.proofs.PatternLaws.{part_digit, part_other}
 use Rattle.arcs.specs.Arc.{lives, live, support, Tallied, Alive, Unsupported}
 use Rattle.table.specs.Lines.{cell_at, black_at, LineOf}
-use Rattle.listing.specs.Listing.{Lists, target_at, OpenAsk, LinesListed}
+use Rattle.listing.specs.Listing.{Lists, target_at, LinesListed}
 use Rattle.listing.proofs.AddLaws.{black_in}
-use Rattle.listing.proofs.LineLaws.{lists_kept}
+use Rattle.listing.proofs.LineLaws.{Listable, lists_kept}
 use Rattle.opening.specs.Opening.{Bare, along_row, along_column, BareTo, Opened}
 
 -- ---- where only counters moved
@@ -108,7 +108,7 @@ module _ (n ℓ p : ℕ) (z : Size n) (h : p < n) where
 
 -- ---- the opened state
 
-module _ {n : ℕ} {ws rows columns l l₁ : List ℕ} (a : OpenAsk n ws rows columns l) (d : LinesListed n rows columns l l₁) where
+module _ {n : ℕ} {ws rows columns l l₁ : List ℕ} (a : Listable n ws rows columns l) (d : LinesListed n rows columns l l₁) where
   fresh_sized : Sized l
   fresh_sized = (fresh_ready a.size a.fresh).sized
 

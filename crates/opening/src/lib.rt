@@ -8,6 +8,7 @@ ghost use Rattle.listing.specs.Listing.{OpenAsk};
 ghost use Rattle.opening.specs.Opening.{Lacks, BareCell, BareIn, BareTo, Opened};
 
 use listing::list_arrangements;
+use puzzle::Puzzle;
 use queue_state::{Slab, clear_mask};
 use value::Value;
 
@@ -63,10 +64,10 @@ fn seed_queue(st: &mut [u16], n: usize)
 }
 
 // The state of a puzzle before anything is propagated.
-pub fn open(st: &mut [u16], words: &[u32], n: usize, rows: &[u8], columns: &[u8])
-    requires { OpenAsk n words.now rows.now columns.now st.old }
-    ensures { Opened n rows.now columns.now st.old st.new }
+pub fn open(st: &mut [u16], words: &[u32], p: Puzzle)
+    requires { OpenAsk p.size.n words.now st.old }
+    ensures { Opened p.entry.size.n p.entry.rows.now p.entry.columns.now st.old st.new }
 {
-    list_arrangements(st, words, n, rows, columns);
-    seed_queue(st, n);
+    list_arrangements(st, words, p);
+    seed_queue(st, p.size.n);
 }

@@ -25,18 +25,12 @@ use Rattle.listing.specs.Listing.{OpenAsk}
 use Rattle.opening.specs.Opening.{Opened}
 use Rattle.rules.specs.Grid.{Puzzle, puzzle}
 use Rattle.puzzle.specs.Accepted.{AcceptedPuzzle}
+use Rattle.puzzle.specs.Stands.{puzzle_of}
 use Rattle.invariants.specs.State.{Kept, Lagging, PropagateAsk, Propagated}
 use Rattle.apply_marks.specs.Applied.{MarksApplied}
 use Rattle.prepare.specs.declared.Question.{Question}
 use Rattle.prepare.specs.Prepared.{Prepared}
 use Rattle.prepare.proofs.Begun.{begun_lagging, begun_kept, begun_whole}
-
--- each target is in range
-within : (m : ℕ) (ts : List ℕ) → all (λ t. leb t m) ts ≡ true → (i : ℕ) → i < length ts → get_or ts i 0 ≤ m
-unfolding all
-within m [] e i h = absurd (omega arith)
-within m (t ∷ ts) e zero h = leb-true t m (and_left (leb t m) _ e)
-within m (t ∷ ts) e (suc i) h = within m ts (and_right (leb t m) _ e) i (omega arith)
 
 -- A puzzle and marks that are not refused, and blank memory.
 pub record PrepareAsk (p : Puzzle) (ms ws l : List ℕ) : Type 0 where
@@ -45,8 +39,8 @@ pub record PrepareAsk (p : Puzzle) (ms ws l : List ℕ) : Type 0 where
   pub room : length ws ≡ 1152
   pub blank : Blank l
 
-pub asked : (q : Question) {ws l : List ℕ} → (length ws ≡ 1152) × Blank l → PrepareAsk (puzzle q.size q.rows.now q.columns.now) (marks_of q.marks.now) ws l
-asked q e = record { puzzle = q.puzzle_passes; marks = q.marks_pass; room = e.0; blank = e.1 }
+pub asked : (q : Question) {ws l : List ℕ} → (length ws ≡ 1152) × Blank l → PrepareAsk (puzzle_of q.puzzle) (marks_of q.marks.now) ws l
+asked q e = record { puzzle = q.puzzle.accepted; marks = q.marks_pass; room = e.0; blank = e.1 }
 
 module _ {n : ℕ} {rows columns ms ws₀ l₀ : List ℕ} (a : PrepareAsk (puzzle n rows columns) ms ws₀ l₀) where
   good : AcceptedPuzzle (puzzle n rows columns)
@@ -56,17 +50,8 @@ module _ {n : ℕ} {rows columns ms ws₀ l₀ : List ℕ} (a : PrepareAsk (puzz
   prepare_size = good.size
 
   module _ {ws l : List ℕ} (w : Words n ws) (f : Fresh n l) where
-    pub prepare_open : OpenAsk n ws rows columns l
-    prepare_open =
-        record {
-          size = prepare_size;
-          fresh = f;
-          words = w;
-          rows_long = good.rows_long;
-          columns_long = good.columns_long;
-          rows_within = λ i h. within (max_target n) rows good.rows_within i (subst (λ k. i < k) (sym good.rows_long) h);
-          columns_within = λ i h. within (max_target n) columns good.columns_within i (subst (λ k. i < k) (sym good.columns_long) h);
-        }
+    pub prepare_open : OpenAsk n ws l
+    prepare_open = record { fresh = f; words = w }
 
     module _ {l₁ : List ℕ} (o : Opened n rows columns l l₁) where
       pub prepare_propagable : PropagateAsk n ws l₁

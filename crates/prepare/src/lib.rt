@@ -3,10 +3,9 @@
 
 ghost use Rattle.std.specs.Prelude.{◌≡◌, length};
 ghost use Rattle.rules.specs.Mark.{marks_of};
-ghost use Rattle.rules.specs.Grid.{puzzle};
 ghost use Rattle.rules.specs.Check.{refusal};
 ghost use Rattle.rules.specs.CheckParts.{mark_checks};
-ghost use Rattle.puzzle.specs.Accepted.{AcceptedPuzzle};
+ghost use Rattle.puzzle.specs.Stands.{puzzle_of};
 ghost use Rattle.fresh.specs.Fresh.{Blank};
 ghost use Rattle.prepare.specs.Prepared.{Prepared};
 
@@ -14,31 +13,29 @@ use apply_marks::apply_marks;
 use fresh::fresh;
 use opening::open;
 use propagate::propagate;
+use puzzle::Puzzle;
 use words::fill_words;
 
 // A puzzle and its marks that passed the checks of a unit, whichever it is.
 #[derive(Clone, Copy)]
 pub struct Question<'a> {
-    pub size: usize,
-    pub rows: &'a [u8],
-    pub columns: &'a [u8],
+    pub puzzle: Puzzle<'a>,
     pub marks: &'a [u8],
-    pub ghost puzzle_passes: { AcceptedPuzzle (puzzle size rows.now columns.now) },
-    pub ghost marks_pass: { refusal (mark_checks size (marks_of marks.now)) ≡ 0 },
+    pub ghost marks_pass: { refusal (mark_checks puzzle.size.n (marks_of marks.now)) ≡ 0 },
 }
 
 // False if a cell is empty before the marks, so that no grid is left.
 pub fn prepare(st: &mut [u16], words: &mut [u32], q: Question) -> bool
     requires { (length words.old ≡ 1152) × Blank st.old }
-    ensures { Prepared (puzzle q.entry.size q.entry.rows.now q.entry.columns.now)
-        (marks_of q.entry.marks.now) words.new st.new result }
+    ensures { Prepared (puzzle_of q.entry.puzzle) (marks_of q.entry.marks.now) words.new st.new result }
 {
-    fill_words(words, q.size);
-    fresh(st, q.size);
-    open(st, words, q.size, q.rows, q.columns);
-    if !propagate(st, words, q.size) {
+    let size = q.puzzle.size;
+    fill_words(words, size);
+    fresh(st, size);
+    open(st, words, q.puzzle);
+    if !propagate(st, words, size.n) {
         return false;
     }
-    apply_marks(st, q.size, q.marks);
+    apply_marks(st, size.n, q.marks);
     true
 }

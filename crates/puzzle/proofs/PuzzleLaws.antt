@@ -1,7 +1,6 @@
 -- The checks of a puzzle, one after the other, and what a puzzle that passes them all is. Assumes nothing.
 use Prim.Native.Nat.{ℕ}
 use mathlib.Core.Path.{◌≡◌, refl}
-use mathlib.Core.List.{List}
 use mathlib.Core.Bool.{Bool, true, false}
 use lib.Dec.{eqb, leb}
 use lib.ListN.{length}
@@ -12,12 +11,11 @@ use Rattle.std.specs.Prelude.{Ok, Err}
 use Rattle.refusal.specs.declared.Refusal.TheVariants.{Size as SizeFault, TargetLengths, Target, SizeLimit}
 use Rattle.units.specs.declared.Unit.{Unit}
 use Rattle.units.specs.Limits.{takes_size}
-use Rattle.rules.specs.Grid.{Puzzle, puzzle}
+use Rattle.rules.specs.Grid.{Puzzle}
 use Rattle.rules.specs.Check.{checked, refusal, max_target, puzzle_checks}
 use Rattle.rules.specs.CheckParts.{size_fits, targets_fit}
-use Rattle.rules.proofs.CheckLaws.{lacks, numbered, passed_number, refusal_none}
+use Rattle.rules.proofs.CheckLaws.{lacks, numbered, refusal_none}
 use Rattle.rules.proofs.SizeLaws.{size_in}
-use Rattle.rules.specs.Size.{Size}
 use Rattle.puzzle.specs.Accepted.{AcceptedPuzzle}
 
 module _ (u : Unit) (p : Puzzle) where
@@ -70,7 +68,3 @@ accepted u p e =
       rows_within = and_left _ _ d.0;
       columns_within = and_right (all (λ t. leb t (max_target n)) p.rows) _ d.0;
     }
-
--- its size
-pub passed_size : (u : Unit) (n : ℕ) (rows columns : List ℕ) → checked (puzzle_checks u (puzzle n rows columns)) ≡ Ok tt → Size n
-passed_size u n rows columns e = (accepted u (puzzle n rows columns) (passed_number _ e)).size

@@ -3,18 +3,57 @@
 
 ghost use Rattle.std.specs.Prelude.{◌≡◌, leb};
 ghost use Rattle.tally.specs.Tally.{all};
-ghost use Rattle.rules.specs.Check.{checked, max_target, puzzle_checks};
-ghost use Rattle.rules.specs.CheckParts.{size_fits, targets_fit};
-ghost use Rattle.rules.specs.Size.{Size};
+ghost use Rattle.rules.specs.Check.{puzzle_checks};
+ghost use Rattle.rules.specs.CheckParts.{targets_fit};
 ghost use Rattle.rules.specs.Grid.{puzzle};
+ghost use Rattle.puzzle.specs.Accepted.{AcceptedPuzzle, Passed};
 
+use grid_size::GridSize;
 use refusal::Refusal;
 use units::Unit;
 
-pub fn size_fits(n: usize) -> bool
-    ensures { result ≡ size_fits n }
-{
-    2 <= n && n <= 9
+// A puzzle that passed the checks of a unit, whichever it is.
+#[derive(Clone, Copy)]
+pub struct Puzzle<'a> {
+    pub size: GridSize,
+    pub rows: &'a [u8],
+    pub columns: &'a [u8],
+    pub ghost accepted: { AcceptedPuzzle (puzzle size.n rows.now columns.now) },
+}
+
+impl<'a> Puzzle<'a> {
+    // The puzzle, if it passes the checks of a unit.
+    pub fn try_new(
+        unit: Unit,
+        n: usize,
+        rows: &'a [u8],
+        columns: &'a [u8],
+    ) -> Result<Puzzle<'a>, Refusal>
+        ensures { Passed (puzzle_checks unit (puzzle n rows.now columns.now))
+            (λ p. puzzle p.size.n p.rows.now p.columns.now ≡ puzzle n rows.now columns.now) result }
+    {
+        let Some(size) = GridSize::try_new(n) else {
+            return Err(Refusal::Size);
+        };
+        if !unit.takes_size(n) {
+            return Err(Refusal::SizeLimit);
+        }
+        if !targets_fit(n, rows.len(), columns.len()) {
+            return Err(Refusal::TargetLengths);
+        }
+        let limit = size.max_target();
+        if !all_within(limit, rows) {
+            return Err(Refusal::Target);
+        }
+        if !all_within(limit, columns) {
+            return Err(Refusal::Target);
+        }
+        Ok(Puzzle {
+            size,
+            rows,
+            columns,
+        })
+    }
 }
 
 pub fn targets_fit(n: usize, rows: usize, columns: usize) -> bool
@@ -23,38 +62,8 @@ pub fn targets_fit(n: usize, rows: usize, columns: usize) -> bool
     rows == n && columns == n
 }
 
-pub fn max_target(n: usize) -> usize
-    requires { Size n }
-    ensures { result ≡ max_target n }
-{
-    (n - 2) * (n - 1) / 2
-}
-
 fn all_within(limit: usize, targets: &[u8]) -> bool
     ensures { result ≡ all (λ t. leb t limit) targets.now }
 {
     targets.iter().all(|t| usize::from(*t) <= limit)
-}
-
-// The checks of a puzzle in a unit.
-pub fn check_puzzle(unit: Unit, n: usize, rows: &[u8], columns: &[u8]) -> Result<(), Refusal>
-    ensures { result ≡ checked (puzzle_checks unit (puzzle n rows.now columns.now)) }
-{
-    if !size_fits(n) {
-        return Err(Refusal::Size);
-    }
-    if !unit.takes_size(n) {
-        return Err(Refusal::SizeLimit);
-    }
-    if !targets_fit(n, rows.len(), columns.len()) {
-        return Err(Refusal::TargetLengths);
-    }
-    let limit = max_target(n);
-    if !all_within(limit, rows) {
-        return Err(Refusal::Target);
-    }
-    if !all_within(limit, columns) {
-        return Err(Refusal::Target);
-    }
-    Ok(())
 }

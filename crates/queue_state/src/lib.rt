@@ -8,10 +8,7 @@ ghost use Rattle.queue_state.specs.Slab.{Sized, Struck, One, Masked, StrikeAsk, 
 
 use value::Bits;
 
-#[derive(Clone, Copy)]
-pub struct Slab {
-    pub len: usize,
-}
+pub struct Slab;
 
 impl Slab {
     // The candidates of the 81 cells stand first, then the queue of strikes, then how many it has.

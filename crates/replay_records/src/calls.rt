@@ -5,7 +5,7 @@ ghost use Rattle.replay_records.specs.Agreement.{SumsAgree, SheetAgrees, step_nu
 
 use crate::Buffer;
 use grid_lines::Line;
-use puzzle::size_fits;
+use grid_size::GridSize;
 use record_fields::{byte, field, is_number, size, sums_recorded};
 use sheet_marking::{LineFault, line_fault};
 use units::Unit;
@@ -62,7 +62,7 @@ pub(crate) fn line_check_agrees(list: &[u8]) -> bool
 {
     let n = size(list);
     let cells = field(list, 2);
-    if !size_fits(n) || cells.len() != n {
+    if GridSize::try_new(n).is_none() || cells.len() != n {
         return false;
     }
     let line = Line {

@@ -13,12 +13,11 @@ use Rattle.units.specs.declared.Unit.{Unit}
 use Rattle.rules.specs.Grid.{keeps_line, keeps, Puzzle, target, puzzle}
 use Rattle.rules.specs.Check.{checked, check_buffer, puzzle_checks, sheet_checks}
 use Rattle.rules.specs.Strided.{strided}
-use Rattle.rules.proofs.CheckLaws.{checked_skip, checked_stop, passed_number, refusal_none, refusal_none_left, refusal_none_right}
+use Rattle.rules.proofs.CheckLaws.{checked_skip, checked_stop, passed_number, refusal_none, refusal_none_right}
 use Rattle.rules.proofs.StridedLaws.{all_each_line}
-use Rattle.puzzle.proofs.PuzzleLaws.{puzzle_numbered, accepted}
+use Rattle.puzzle.proofs.PuzzleLaws.{puzzle_numbered}
 use Rattle.grid_lines.specs.declared.Lines.{Lines}
 use Rattle.sheet_marking.specs.Answer.{mark_sheet}
-use Rattle.sheet_marking.specs.Marking.{MarkSheetAsk}
 
 -- line i of those that start at 0, step, .. keeps its target
 abbrev pub keeps_at : ℕ → ℕ → List ℕ → ℕ → List ℕ → ℕ → Bool
@@ -50,18 +49,12 @@ module _ (u : Unit) (p : Puzzle) (g : List ℕ) where
 
 -- ---- the sheet
 
-pub fit : (u : Unit) (p : Puzzle) (g : List ℕ) → Ok tt ≡ checked (sheet_checks u p g) → MarkSheetAsk p.size (length g) (length p.rows) (length p.columns)
+pub fit : (u : Unit) (p : Puzzle) (g : List ℕ) → Ok tt ≡ checked (sheet_checks u p g) → length g ≡ p.size * p.size
 unfolding sheet_checks
 fit u p g q =
     let e = passed_number _ (sym q) in
-    let a = accepted u p (refusal_none_left (puzzle_checks u p) (check_buffer p.size (length g) ∷ []) e) in
     let b = refusal_none CellsLength _ _ (refusal_none_right (puzzle_checks u p) (check_buffer p.size (length g) ∷ []) (puzzle_numbered u p) e) in
-    record {
-      size = a.size;
-      cells_fit = eqb-true (length g) (p.size * p.size) b.0;
-      rows_long = a.rows_long;
-      columns_long = a.columns_long;
-    }
+    eqb-true (length g) (p.size * p.size) b.0
 
 module _ (n : ℕ) (rows columns g : List ℕ) (across down : Lines)
     (a : (across.cells.now ≡ g) × (across.step ≡ n) × (across.stride ≡ 1) × (across.count ≡ n))

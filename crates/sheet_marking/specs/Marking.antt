@@ -1,5 +1,5 @@
--- What the functions of marking ask: sizes and lengths as the checks want them. Assumes nothing.
-use Rattle.std.specs.Prelude.{ℕ, ◌*◌, ◌≡◌, true, List}
+-- What the sum of a line is asked of. Assumes nothing.
+use Rattle.std.specs.Prelude.{ℕ, ◌≡◌, true, List}
 use Rattle.rules.specs.Grid.{lawful}
 use Rattle.rules.specs.Size.{Size}
 
@@ -7,10 +7,3 @@ use Rattle.rules.specs.Size.{Size}
 pub record LawfulAsk (n : ℕ) (l : List ℕ) : Type 0 where
   pub size : Size n
   pub is_lawful : lawful n l ≡ true
-
--- the sheet has the size of its puzzle, and so have both target slices
-pub record MarkSheetAsk (n len rows columns : ℕ) : Type 0 where
-  pub size : Size n
-  pub cells_fit : len ≡ n * n
-  pub rows_long : rows ≡ n
-  pub columns_long : columns ≡ n

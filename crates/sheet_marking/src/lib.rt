@@ -4,17 +4,20 @@
 ghost use Rattle.std.specs.Prelude.{◌≡◌, ◌*◌, ◌^◌, length, get_or};
 ghost use Rattle.tally.specs.Tally.{all, span};
 ghost use Rattle.rules.specs.Grid.{digits_once, two_blacks, line_sum, meets, keeps_line, keeps, puzzle};
-ghost use Rattle.rules.specs.Check.{checked, sheet_checks};
+ghost use Rattle.puzzle.specs.Accepted.{Passed};
+ghost use Rattle.puzzle.specs.Stands.{puzzle_of};
+ghost use Rattle.rules.specs.Check.{sheet_checks};
 ghost use Rattle.rules.specs.Size.{Size};
 ghost use Rattle.rules.specs.Strided.{strided};
 ghost use Rattle.grid_lines.specs.Cells.{line_cells};
 ghost use Rattle.sheet_marking.specs.Answer.{mark_sheet};
 ghost use Rattle.sheet_marking.specs.Counts.{byte_place, CountsOf, CountsTell};
 ghost use Rattle.sheet_marking.specs.Fault.{line_fault};
-ghost use Rattle.sheet_marking.specs.Marking.{LawfulAsk, MarkSheetAsk};
+ghost use Rattle.sheet_marking.specs.Marking.{LawfulAsk};
 
 use grid_lines::{Line, Lines};
-use puzzle::check_puzzle;
+use grid_size::GridSize;
+use puzzle::Puzzle;
 use refusal::Refusal;
 use target_sums::line_sum;
 use units::Unit;
@@ -55,11 +58,10 @@ fn byte_counts(line: Line) -> u64
 }
 
 // Step 1: each digit of size n stands in the line once: behind the counts of blacks and empty cells, n - 2 counts are 1.
-fn digits_once(m: u64, n: usize) -> bool
-    requires { Size n }
-    ensures { CountsTell m (digits_once n) result }
+fn digits_once(m: u64, size: GridSize) -> bool
+    ensures { CountsTell m (digits_once size.n) result }
 {
-    let p = 1u64 << (4 * (n - 2));
+    let p = 1u64 << (4 * (size.n - 2));
     m / 256 % p == 0x1111111 % p
 }
 
@@ -84,7 +86,7 @@ pub fn line_fault(line: Line, t: u8) -> Option<LineFault>
     ensures { result ≡ line_fault line.entry.len t (line_cells line.entry) }
 {
     let m = byte_counts(line);
-    if !digits_once(m, line.len) {
+    if !digits_once(m, GridSize { n: line.len }) {
         return Some(LineFault::Digits);
     }
     if !two_blacks(m) {
@@ -110,31 +112,31 @@ fn lines_keep(lines: Lines, targets: &[u8]) -> bool
     true
 }
 
-// The checks of a sheet in a unit.
-fn check_sheet(
+// The puzzle of a sheet, if the checks of the sheet in a unit pass.
+fn check_sheet<'a>(
     unit: Unit,
     n: usize,
-    rows: &[u8],
-    columns: &[u8],
+    rows: &'a [u8],
+    columns: &'a [u8],
     cells: &[u8],
-) -> Result<(), Refusal>
-    ensures { result ≡ checked (sheet_checks unit (puzzle n rows.now columns.now) cells.now) }
+) -> Result<Puzzle<'a>, Refusal>
+    ensures { Passed (sheet_checks unit (puzzle n rows.now columns.now) cells.now) (λ p. puzzle_of p ≡ puzzle n rows.now columns.now) result }
 {
-    check_puzzle(unit, n, rows, columns)?;
+    let puzzle = Puzzle::try_new(unit, n, rows, columns)?;
     if cells.len() != n * n {
         return Err(Refusal::CellsLength);
     }
-    Ok(())
+    Ok(puzzle)
 }
 
 // The sheet keeps the puzzle: each row, then each column keeps its target.
-fn sheet_right(n: usize, rows: &[u8], columns: &[u8], cells: &[u8]) -> bool
-    requires { MarkSheetAsk n (length cells.now) (length rows.now) (length columns.now) }
-    ensures { result ≡ keeps (puzzle n rows.now columns.now) cells.now }
+fn sheet_right(p: Puzzle, cells: &[u8]) -> bool
+    requires { length cells.now ≡ p.size.n * p.size.n }
+    ensures { result ≡ keeps (puzzle_of p.entry) cells.now }
 {
-    let across = Lines::rows(cells, n);
-    let down = Lines::columns(cells, n);
-    lines_keep(across, rows) && lines_keep(down, columns)
+    let across = Lines::rows(cells, p.size);
+    let down = Lines::columns(cells, p.size);
+    lines_keep(across, p.rows) && lines_keep(down, p.columns)
 }
 
 // Whether the sheet is right: exactly when the cells keep the puzzle.
@@ -147,6 +149,6 @@ pub fn mark_sheet(
 ) -> Result<bool, Refusal>
     ensures { result ≡ mark_sheet unit (puzzle size rows.now columns.now) cells.now }
 {
-    check_sheet(unit, size, rows, columns, cells)?;
-    Ok(sheet_right(size, rows, columns, cells))
+    let puzzle = check_sheet(unit, size, rows, columns, cells)?;
+    Ok(sheet_right(puzzle, cells))
 }

@@ -15,14 +15,12 @@ use Rattle.refusal.specs.declared.Refusal.TheVariants.{Size as SizeFault, SizeLi
 use Rattle.refusal.specs.Number.{refusal_number}
 use Rattle.units.specs.declared.Unit.{Unit}
 use Rattle.units.specs.Limits.{takes_size}
-use Rattle.rules.specs.Size.{Size}
 use Rattle.rules.specs.Grid.{line_sum}
 use Rattle.rules.specs.Check.{Check, checked, refusal, check_line, sums_checks}
 use Rattle.rules.specs.CheckParts.{size_fits, targets_fit}
 use Rattle.rules.proofs.CheckLaws.{checked_skip, checked_stop, passed_checks, passed_number, number_positive, refusal_none, refusal_none_left, refusal_none_right, refusal_none_each, numbered, lacks_join}
 use Rattle.rules.proofs.StridedLaws.{checks_each, rows_each, columns_each}
 use Rattle.rules.specs.Strided.{strided, each}
-use Rattle.rules.proofs.SizeLaws.{size_in}
 use Rattle.rules.specs.Sums.{summed_as, target_sums}
 use Rattle.grid_lines.specs.declared.Lines.{Lines}
 use Rattle.target_sums.specs.Answer.{SumsAnswered}
@@ -105,8 +103,8 @@ module _ (u : Unit) (n : ℕ) (g : List ℕ) (r c : ℕ) (d : Ok tt ≡ checked 
   accepted : SumsAccepted u n g r c
   accepted = opened u n g r c (passed_number _ (sym d))
 
-  pub sums_size : Size n × (length g ≡ n * n)
-  sums_size = (size_in n accepted.size_ok, accepted.cells_fit)
+  pub sums_fit : length g ≡ n * n
+  sums_fit = accepted.cells_fit
 
   pub rows_ready : (lines : Lines) → (lines.cells.now ≡ g) × (lines.step ≡ n) × (lines.stride ≡ 1) × (lines.count ≡ n) → SumsAsk lines r
   rows_ready lines e = record { fit = λ i h. rw (e.0, e.1, e.2, e.3) (clear_fits n 1 g n accepted.rows_clear i (omega arith)); room = accepted.rows_long ∙ sym e.3 }

@@ -4,6 +4,7 @@
 ghost use Rattle.std.specs.Prelude.{◌≡◌, ◌≤◌, length, drop};
 ghost use Rattle.tally.specs.Tally.{sum, join};
 ghost use Rattle.rules.specs.Grid.{until_black, line_sum};
+ghost use Rattle.puzzle.specs.Accepted.{Passed};
 ghost use Rattle.rules.specs.Check.{checked, check_line, sums_checks};
 ghost use Rattle.rules.specs.Sums.{target_sums};
 ghost use Rattle.grid_lines.specs.Cells.{line_cells, each_line};
@@ -11,7 +12,8 @@ ghost use Rattle.target_sums.specs.Answer.{SumsAnswered};
 ghost use Rattle.target_sums.specs.Scanning.{Seen, Small, OneMore, BehindBlack, ToBlackAsk, SumsAsk};
 
 use grid_lines::{Line, Lines};
-use puzzle::{size_fits, targets_fit};
+use grid_size::GridSize;
+use puzzle::targets_fit;
 use refusal::Refusal;
 use units::Unit;
 
@@ -135,19 +137,19 @@ fn put_sums(lines: Lines, out: &mut [u8])
     }
 }
 
-// The checks of target sums in a unit.
+// The size, if the checks of target sums in a unit pass.
 fn check_sums(
     unit: Unit,
     n: usize,
     cells: &[u8],
     rows: usize,
     columns: usize,
-) -> Result<(), Refusal>
-    ensures { result ≡ checked (sums_checks unit n cells.now rows columns) }
+) -> Result<GridSize, Refusal>
+    ensures { Passed (sums_checks unit n cells.now rows columns) (λ size. size.n ≡ n) result }
 {
-    if !size_fits(n) {
+    let Some(size) = GridSize::try_new(n) else {
         return Err(Refusal::Size);
-    }
+    };
     if !unit.takes_size(n) {
         return Err(Refusal::SizeLimit);
     }
@@ -157,10 +159,11 @@ fn check_sums(
     if !targets_fit(n, rows, columns) {
         return Err(Refusal::TargetLengths);
     }
-    let across = Lines::rows(cells, n);
-    let down = Lines::columns(cells, n);
+    let across = Lines::rows(cells, size);
+    let down = Lines::columns(cells, size);
     check_lines(across)?;
-    check_lines(down)
+    check_lines(down)?;
+    Ok(size)
 }
 
 // The target sums of the cells, rows then columns, written where nothing is refused.
@@ -174,7 +177,7 @@ pub fn compute_targets(
     ensures { SumsAnswered (target_sums unit size cells.now rows.old columns.old)
         result rows.new columns.new }
 {
-    check_sums(unit, size, cells, rows.len(), columns.len())?;
+    let size = check_sums(unit, size, cells, rows.len(), columns.len())?;
     put_sums(Lines::rows(cells, size), rows);
     put_sums(Lines::columns(cells, size), columns);
     Ok(())

@@ -58,7 +58,7 @@ module _ {ns : List ℕ} {n : ℕ} (e : n ≡ get_or ns 0 0) where
       targets_same = take_all (length ns - 1) (drop 1 ns) (omega (arith, length-drop 1 ns))
 
       pub numbers_ask : TargetsAsk n (take (length ns - 1) (drop 1 ns)) room
-      numbers_ask = record { size_ok = s; long = ap length targets_same ∙ omega (arith, length-drop 1 ns); fits = a.fits }
+      numbers_ask = record { long = ap length targets_same ∙ omega (arith, length-drop 1 ns); fits = a.fits }
 
       puzzle_same : puzzle n (take n (take (length ns - 1) (drop 1 ns))) (drop n (take (length ns - 1) (drop 1 ns))) ≡ puzzle_from ns
       unfolding puzzle_from

@@ -21,7 +21,7 @@ use Rattle.rules.specs.Check.{checked, answered, refusal, puzzle_checks, count_c
 use Rattle.rules.proofs.CheckLaws.{number_positive, passed_number}
 use Rattle.rules.specs.Number.{Verdict as Found, number, verdict_of, Solution}
 use Rattle.rules.specs.Short.{symbols}
-use Rattle.rules.proofs.SizeLaws.{size_in}
+use Rattle.rules.specs.Size.{Size}
 use Rattle.engine.specs.declared.Verdict.{Verdict}
 use Rattle.engine.specs.Answer.{verdict_on, solve_answer, SolveWritten}
 use Rattle.text_rules.specs.Text.{refused_word, number_text, answer_text}
@@ -95,9 +95,8 @@ module _ {n : ℕ} {ts : List ℕ} {room : ℕ} {answer : Result Verdict Refusal
   unfolding marks_of refusal
   solution e h = s.1.written (ap number_of accepted ∙ e) h
 
-  pub solve_shown : AnswerAsk answer n cells' room
-  solve_shown =
-      let z = size_in n a.size_ok in
+  pub solve_shown : Size n → AnswerAsk answer n cells' room
+  solve_shown z =
       record {
         size = z.high;
         square = long ∙ a.square;
@@ -121,8 +120,5 @@ front_long k l h = sym (length-take k l ∙ omega arith)
 pub rows_long : {n : ℕ} {ts : List ℕ} {m room : ℕ} → SolveTargetsAsk n ts m room → n ≡ length (take n ts)
 rows_long {n} {ts} a = front_long n ts (omega (arith, a.long))
 
-pub area : {n : ℕ} {ts : List ℕ} {room : ℕ} → TargetsAsk n ts room → n * n ≤ 81
-area {n} a = (size_in n a.size_ok).square
-
 pub targets_solve : {n : ℕ} {ts : List ℕ} {room m : ℕ} → TargetsAsk n ts room → m ≡ n * n → SolveTargetsAsk n ts m room
-targets_solve a e = record { size_ok = a.size_ok; long = a.long; square = e; fits = a.fits }
+targets_solve a e = record { long = a.long; square = e; fits = a.fits }

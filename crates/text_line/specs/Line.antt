@@ -6,7 +6,6 @@ use Rattle.refusal.specs.Number.{refusal_number}
 use Rattle.units.specs.Limits.{hall}
 use Rattle.rules.specs.Grid.{Puzzle}
 use Rattle.rules.specs.Check.{refusal, puzzle_checks}
-use Rattle.rules.specs.CheckParts.{size_fits}
 use Rattle.rules.specs.Number.{number, verdict_of, Solution}
 use Rattle.engine.specs.declared.Verdict.{Verdict}
 use Rattle.engine.specs.declared.Verdict.TheVariants.{Unsolvable, Unique, Multiple}
@@ -49,16 +48,14 @@ pub record AnswerAsk (answer : Result Verdict Refusal) (n : ℕ) (g : List ℕ) 
   pub cells : shows_grid answer ≡ true → all shown g ≡ true
   pub fits : 99 ≤ room
 
--- A size from 2 to 9, its targets, as many cells as it has, and room.
+-- The targets of a size, as many cells as it has, and room.
 pub record SolveTargetsAsk (n : ℕ) (targets : List ℕ) (cells room : ℕ) : Type 0 where
-  pub size_ok : size_fits n ≡ true
   pub long : length targets ≡ 2 * n
   pub square : cells ≡ n * n
   pub fits : 99 ≤ room
 
--- A size from 2 to 9, its targets, and room.
+-- The targets of a size, and room.
 pub record TargetsAsk (n : ℕ) (targets : List ℕ) (room : ℕ) : Type 0 where
-  pub size_ok : size_fits n ≡ true
   pub long : length targets ≡ 2 * n
   pub fits : 99 ≤ room
 

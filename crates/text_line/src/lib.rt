@@ -8,7 +8,7 @@ ghost use Rattle.text_line.specs.Line.{LineGiven, solved_text, AnswerAsk, SolveT
 
 use arrayvec::{ArrayVec, CapacityError};
 use engine::{Verdict, solve};
-use puzzle::size_fits;
+use grid_size::GridSize;
 use refusal::Refusal;
 use text_answer::{write_refused, write_solved, write_text};
 use text_numbers::read_numbers;
@@ -34,14 +34,15 @@ fn write_answer<const N: usize>(
 
 // Solves the puzzle with its row targets in front of its column targets, into cells of its size.
 fn solve_targets<const N: usize>(
-    n: usize,
+    size: GridSize,
     targets: &[u8],
     cells: &mut [u8],
     out: &mut ArrayVec<u8, N>,
 )
-    requires { SolveTargetsAsk n targets.now (length cells.old) (N - array_vec_len out.old) }
-    ensures { PuzzleText (puzzle n (take n targets.now) (drop n targets.now)) out.old.items out.new.items }
+    requires { SolveTargetsAsk size.n targets.now (length cells.old) (N - array_vec_len out.old) }
+    ensures { PuzzleText (puzzle size.n (take size.n targets.now) (drop size.n targets.now)) out.old.items out.new.items }
 {
+    let n = size.n;
     let answer = solve(
         Unit::hall(),
         n,
@@ -54,13 +55,13 @@ fn solve_targets<const N: usize>(
 }
 
 // The answer to a puzzle with its row targets in front of its column targets.
-fn answer_targets<const N: usize>(n: usize, targets: &[u8], out: &mut ArrayVec<u8, N>)
-    requires { TargetsAsk n targets.now (N - array_vec_len out.old) }
-    ensures { PuzzleText (puzzle n (take n targets.now) (drop n targets.now)) out.old.items out.new.items }
+fn answer_targets<const N: usize>(size: GridSize, targets: &[u8], out: &mut ArrayVec<u8, N>)
+    requires { TargetsAsk size.n targets.now (N - array_vec_len out.old) }
+    ensures { PuzzleText (puzzle size.n (take size.n targets.now) (drop size.n targets.now)) out.old.items out.new.items }
 {
     let mut cells = [0u8; 81];
-    let area = n * n;
-    solve_targets(n, targets, &mut cells[..area], out);
+    let area = size.n * size.n;
+    solve_targets(size, targets, &mut cells[..area], out);
 }
 
 // The answer to the numbers of a line.
@@ -69,13 +70,13 @@ fn answer_numbers<const N: usize>(numbers: &[u8], out: &mut ArrayVec<u8, N>)
     ensures { NumbersText numbers.now out.old.items out.new.items }
 {
     let n = usize::from(numbers[0]);
-    if !size_fits(n) {
+    let Some(size) = GridSize::try_new(n) else {
         return write_refused(Refusal::Size.number(), out);
-    }
+    };
     if numbers.len() != 2 * n + 1 {
         return write_refused(Refusal::TargetLengths.number(), out);
     }
-    answer_targets(n, &numbers[1..], out);
+    answer_targets(size, &numbers[1..], out);
 }
 
 // Appends the text that answers a line. A buffer with room for less than 100 bytes is left alone.

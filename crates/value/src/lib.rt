@@ -6,17 +6,11 @@ ghost use Rattle.std.specs.Prelude.{◌≡◌, ◌+◌, ◌*◌, ◌/◌, ◌%�
 ghost use Rattle.std.specs.Iterator.{at_most};
 ghost use Rattle.rules.specs.Grid.{digits};
 ghost use Rattle.rules.specs.Check.{named};
-ghost use Rattle.rules.specs.Size.{Size};
 ghost use Rattle.table.specs.Table.{every_value};
 ghost use Rattle.value.specs.Mask.{mask_of};
 ghost use Rattle.value.specs.Walk.{LowestFirst};
 
-// A number of 16 bits as a place, a length or a value: asks no proof that it fits.
-pub fn wide(x: u16) -> usize
-    ensures { result ≡ x }
-{
-    x as usize
-}
+use grid_size::GridSize;
 
 #[derive(Clone, Copy)]
 pub struct Value {
@@ -50,29 +44,26 @@ impl Value {
 
     pub const EVERY: u16 = Value::ROW_HALF + Value::COL_BLACKS;
 
-    // A mark may name it at size n: a digit, or a black.
-    pub fn is_named(self, n: usize) -> bool
-        requires { Size n }
-        ensures { result ≡ named n self.code }
+    // A mark may name it at a size: a digit, or a black.
+    pub fn is_named(self, size: GridSize) -> bool
+        ensures { result ≡ named size.n self.code }
     {
         let v = self.code;
-        (1..=n - 2).contains(&v) || (Value::BLACK1_ROW..=Value::BLACK2_COL).contains(&v)
+        (1..=size.n - 2).contains(&v) || (Value::BLACK1_ROW..=Value::BLACK2_COL).contains(&v)
     }
 
     // The digits.
-    pub fn all_digits(n: usize) -> u16
-        requires { Size n }
-        ensures { result ≡ mask_of (digits n) }
+    pub fn all_digits(size: GridSize) -> u16
+        ensures { result ≡ mask_of (digits size.n) }
     {
-        (1u16 << (n - 1)) - 2
+        (1u16 << (size.n - 1)) - 2
     }
 
     // Every candidate of a cell.
-    pub fn full_cell(n: usize) -> u16
-        requires { Size n }
-        ensures { result ≡ mask_of (every_value n) }
+    pub fn full_cell(size: GridSize) -> u16
+        ensures { result ≡ mask_of (every_value size.n) }
     {
-        Value::all_digits(n) + Value::ROW_BLACKS + Value::COL_BLACKS
+        Value::all_digits(size) + Value::ROW_BLACKS + Value::COL_BLACKS
     }
 }
 

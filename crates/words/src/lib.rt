@@ -4,10 +4,11 @@
 #![tactic(auto)]
 
 ghost use Rattle.std.specs.Prelude.{◌≡◌, ◌+◌, ◌≤◌, ◌<◌, length, eqb, not};
-ghost use Rattle.rules.specs.Size.{Size};
 ghost use Rattle.words.specs.Word.{from_sum, set_of, first_of, second_of, outside_of, covered_of, from_of, to_of, head_of, last_of, shift_of};
-ghost use Rattle.words.specs.Word.{inner_places, word_from, on_side, Words};
+ghost use Rattle.words.specs.Word.{inner_places, word_from, Words};
 ghost use Rattle.words.specs.Fill.{FillAsk, WordsFilled};
+
+use grid_size::GridSize;
 
 #[derive(Clone, Copy)]
 pub struct Subset {
@@ -127,62 +128,54 @@ pub fn black_shift(first: usize, v: usize) -> u32
     if v == first { 17 } else { 21 }
 }
 
-// An arrangement that takes the places before end is an inside one, or an outside one.
-#[tactic(auto, unfolding(crate::specs::Word::on_side))]
-pub fn on_side(n: usize, outside: bool, end: usize) -> bool
-    ensures { result ≡ on_side n outside end }
-{
-    if outside { n < end } else { end <= n }
-}
-
 // The places between the ends.
-fn inner_places(n: usize, len: usize, start: usize) -> u32
-    requires { Size n × (len + 2 ≤ n) × (start < n) }
-    ensures are { result ≡ inner_places n len start }
+fn inner_places(size: GridSize, len: usize, start: usize) -> u32
+    requires { (len + 2 ≤ size.n) × (start < size.n) }
+    ensures are { result ≡ inner_places size.n len start }
     ensures small { result < 512 }
 {
     let run = ((1u32 << len) - 1) << (start + 1);
-    run % (1u32 << n) + (run >> n)
+    run % (1u32 << size.n) + (run >> size.n)
 }
 
 // The word of a set of len digits from a start on.
 #[tactic(auto, unfolding(crate::specs::Word::word_from))]
-fn word(n: usize, set: u32, len: usize, start: usize) -> u32
-    requires { Size n × (set < 256) × (len + 2 ≤ n) × (start < n) }
-    ensures { result ≡ word_from n set len start }
+fn word(size: GridSize, set: u32, len: usize, start: usize) -> u32
+    requires { (set < 256) × (len + 2 ≤ size.n) × (start < size.n) }
+    ensures { result ≡ word_from size.n set len start }
 {
-    let inner = inner_places(n, len, start);
+    let inner = inner_places(size, len, start);
     let end = start + len + 1;
-    if end < n {
+    if end < size.n {
         set + inner * 256 + (start as u32) * 131072 + (end as u32) * 2097152
     } else {
-        set + inner * 256 + ((end - n) as u32) * 131072 + (start as u32) * 2097152 + 33554432
+        set + inner * 256 + ((end - size.n) as u32) * 131072 + (start as u32) * 2097152 + 33554432
     }
 }
 
 // The words of subset s, whose code is x: one for each start.
-fn fill_starts(words: &mut [u32], n: usize, s: usize, x: u16)
-    requires { FillAsk n s x words.old }
-    ensures { WordsFilled n s words.old words.new }
+fn fill_starts(words: &mut [u32], size: GridSize, s: usize, x: u16)
+    requires { FillAsk size.n s x words.old }
+    ensures { WordsFilled size.n s words.old words.new }
 {
     let set = u32::from(x % 256);
     let len = usize::from(x / 8192);
-    for start in 0..n {
-        words[s * 9 + start] = word(n, set, len, start);
+    for start in 0..size.n {
+        words[s * 9 + start] = word(size, set, len, start);
     }
 }
 
-// The words of all arrangements of size n.
-pub fn fill_words(words: &mut [u32], n: usize)
-    requires { Size n × (length words.old ≡ 1152) }
-    ensures { Words n words.new }
+// The words of all arrangements of a size.
+pub fn fill_words(words: &mut [u32], size: GridSize)
+    requires { length words.old ≡ 1152 }
+    ensures { Words size.n words.new }
 {
-    let top = 1u16 << (n - 1);
+    let top = 1u16 << (size.n - 1);
     // A copy on the stack: where the table is read in place, its address is made anew for each subset, and size 2 takes a quarter longer.
     let subsets = Subset::ALL;
     for (s, &x) in subsets.iter().enumerate() {
         if x % 256 < top {
-            fill_starts(words, n, s, x);
+            fill_starts(words, size, s, x);
         }
     }
 }

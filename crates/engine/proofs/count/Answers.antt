@@ -1,20 +1,14 @@
 -- `engine::count` meets its contract. Assumes nothing.
-use mathlib.Core.Path.{sym}
 use Rattle.std.proofs.lemmas.Result.{err_from_is_err_and}
-use Rattle.rules.specs.Grid.{puzzle}
-use Rattle.rules.proofs.CheckLaws.{passed_number}
-use Rattle.engine.proofs.CountLaws.{count_refused, count_done, count_asked}
+use Rattle.engine.proofs.CountLaws.{count_refused, count_done}
 use Rattle.engine.proofs.count.Goals as goal
 
-pub returns-in_err-check_count : goal.returns-in_err-check_count
-returns-in_err-check_count c =
+pub returns-in_err-question : goal.returns-in_err-question
+returns-in_err-question c =
     let p = err_from_is_err_and c.from_residual.result c.from_residual.ensures.1 in
-    rw (p.1, p.2) (count_refused _ _ _ _ _ c.in_err-check_count.ensures)
-
-pub invariant_of-question : goal.invariant_of-question
-invariant_of-question c =
-    let a = count_asked c.args.unit (puzzle c.args.size c.args.rows.now c.args.columns.now) _ (passed_number _ (sym c.in_ok-check_count.ensures)) in
-    record { puzzle_passes = a.puzzle; marks_pass = a.marks }
+    rw (p.1, p.2) (count_refused _ _ _ _ _ c.in_err-question.ensures)
 
 pub returns : goal.returns
-returns c = count_done _ _ _ _ _ c.in_ok-check_count.ensures c.find_grids.ensures.count
+returns c =
+    let e = c.in_ok-question.ensures in
+    count_done _ _ _ _ _ e.0 (rw (e.1.0, e.1.1) at c.find_grids.ensures.count)

@@ -8,7 +8,7 @@ use Rattle.fresh.proofs.fresh.Goals as goal
 pub returns : goal.returns
 returns c =
     let cells = rw c.full_cell.ensures at c.fill_cells.ensures in
-    let counters : Filled c.fill_cells.new.st _ row_half_at row_blacks_at c.args.n =
+    let counters : Filled c.fill_cells.new.st _ row_half_at row_blacks_at c.args.size.n =
     filled _ c.fill.new.self _ _ _ (omega arith) (omega (arith, cells.size)) (c.fill.ensures.after (search rules)) in
     fresh_done cells counters
     (filled _ _ row_blacks_at lengths_at _ (omega arith) (omega (arith, counters.size, cells.size)) (c.fill-2.ensures.after (search rules)))

@@ -6,11 +6,11 @@ use Rattle.mark_list.proofs.check_mark.Goals as goal
 pub returns-then-word-ne0 : goal.returns-then-word-ne0
 returns-then-word-ne0 c = search (rules, mark_4)
 
-pub returns-then-n-x : goal.returns-then-n-x
-returns-then-n-x c = search (rules, mark_5_row)
+pub returns-then-size-x : goal.returns-then-size-x
+returns-then-size-x c = search (rules, mark_5_row)
 
-pub returns-then-n-x-2 : goal.returns-then-n-x-2
-returns-then-n-x-2 c = search (rules, mark_5_column)
+pub returns-then-size-x-2 : goal.returns-then-size-x-2
+returns-then-size-x-2 c = search (rules, mark_5_column)
 
 pub returns-then-is_named : goal.returns-then-is_named
 returns-then-is_named c = search (rules, mark_0)

@@ -10,7 +10,7 @@ use Rattle.mark_list.proofs.check_marks.Goals as goal
 
 pub returns-in_err-check_mark : goal.returns-in_err-check_mark
 returns-in_err-check_mark c =
-    let n = c.args.n in
+    let n = c.args.size.n in
     let h : 2 * c.loop-i.i < length c.args.bytes.now = omega arith in
     let d = c.in_err-check_mark.ensures ∙ ap (λ x. checked (check_mark n x)) c.mark_at.ensures in
     let p = err_from_is_err_and c.from_residual.result c.from_residual.ensures.1 in
@@ -18,10 +18,10 @@ returns-in_err-check_mark c =
 
 pub loop-i-preserved : goal.loop-i-preserved
 loop-i-preserved c =
-    let n = c.args.n in
+    let n = c.args.size.n in
     let h : 2 * c.loop-i.i < length c.args.bytes.now = omega arith in
     let d = c.in_ok-check_mark.ensures ∙ ap (λ x. checked (check_mark n x)) c.mark_at.ensures in
     c.loop-i.invariant ∙ list_skip n c.args.bytes.now c.loop-i.i h d
 
 pub returns : goal.returns
-returns c = sym (c.loop-i.invariant ∙ list_end c.args.n c.args.bytes.now c.loop-i.i (omega arith))
+returns c = sym (c.loop-i.invariant ∙ list_end c.args.size.n c.args.bytes.now c.loop-i.i (omega arith))

@@ -8,4 +8,4 @@ use Rattle.rules.specs.CheckParts.{mark_checks}
 use Rattle.mark_list.proofs.check_marks.Given as goal
 
 abbrev pub invariant-loop-i : goal.invariant-loop-i
-invariant-loop-i l = checked (mark_checks l.n (marks_of l.bytes)) ≡ checked (mark_checks l.n (marks_of (drop (2 * l.i) l.bytes)))
+invariant-loop-i l = checked (mark_checks l.size.n (marks_of l.bytes)) ≡ checked (mark_checks l.size.n (marks_of (drop (2 * l.i) l.bytes)))

@@ -1,12 +1,12 @@
 -- `prepare::prepare` meets its contract. Assumes nothing.
-use Rattle.prepare.proofs.PrepareLaws.{asked, prepare_size, prepare_open, prepare_propagable, prepare_none, prepare_marks, prepare_done}
+use Rattle.prepare.proofs.PrepareLaws.{asked, prepare_open, prepare_propagable, prepare_none, prepare_marks, prepare_done}
 use Rattle.prepare.proofs.prepare.Goals as goal
 
 pub fill_words-requires : goal.fill_words-requires
-fill_words-requires c = let a = asked c.args.q c.requires in (prepare_size a, a.room)
+fill_words-requires c = (asked c.args.q c.requires).room
 
 pub fresh-requires : goal.fresh-requires
-fresh-requires c = let a = asked c.args.q c.requires in (a.blank, prepare_size a)
+fresh-requires c = (asked c.args.q c.requires).blank
 
 pub open-requires : goal.open-requires
 open-requires c = prepare_open (asked c.args.q c.requires) c.fill_words.ensures c.fresh.ensures

@@ -4,10 +4,10 @@ use Rattle.text_line.proofs.PuzzleTextLaws.{rows_long, solve_shown, solve_text}
 use Rattle.text_line.proofs.solve_targets.Goals as goal
 
 pub slice_bounds-solve-end : goal.slice_bounds-solve-end
-slice_bounds-solve-end g c = search (rules, rows_long)
+slice_bounds-solve-end g c = rows_long c.requires
 
 pub write_answer-requires : goal.write_answer-requires
-write_answer-requires g c = (search rules, solve_shown c.requires (rw c.hall.ensures at c.solve-answer.ensures) c.solve-answer.auto.cells)
+write_answer-requires g c = (search rules, solve_shown c.requires (rw c.hall.ensures at c.solve-answer.ensures) c.solve-answer.auto.cells c.args.size.fits)
 
 pub returns : goal.returns
 returns g c = solve_text c.requires (rw c.hall.ensures at c.solve-answer.ensures) c.solve-answer.auto.cells c.write_answer.ensures

@@ -1,7 +1,7 @@
 -- `text_line::write_answer` meets its contract. Assumes nothing.
 use Rattle.std.proofs.Common.{◌≡◌, refl, ap, ◌∙◌, rules}
 use native.Mathlib.Omega.{arith}
-use Rattle.std.specs.Prelude.{Ok, Err}
+use Rattle.std.specs.Prelude.{Ok}
 use Rattle.engine.specs.declared.Verdict.TheVariants.{Unsolvable, Unique, Multiple}
 use Rattle.text_line.proofs.PuzzleTextLaws.{answer_ask, answer_put}
 use Rattle.text_line.proofs.write_answer.Goals as goal

@@ -6,7 +6,7 @@ use Rattle.words.proofs.fill_starts.Goals as goal
 pub word-requires : goal.word-requires
 word-requires c =
     let a = c.requires in
-    (a.size, omega arith, omega (arith, fill_room a), c.loop-start-test.true)
+    (omega arith, omega (arith, fill_room a), c.loop-start-test.true)
 
 pub loop-start-preserved : goal.loop-start-preserved
 loop-start-preserved c =

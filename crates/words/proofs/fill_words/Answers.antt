@@ -7,12 +7,12 @@ use Rattle.words.proofs.fill_words.Goals.{then-x-top, else-x-top}
 pub fill_starts-requires : goal.fill_starts-requires
 unfolding subset subset_table
 fill_starts-requires c =
-    filled_ask c.requires.0 c.loop-s.invariant c.loop-s-test.true c.if-x-top.true
+    filled_ask c.args.size.fits c.loop-s.invariant c.loop-s-test.true c.if-x-top.true
 
 pub loop-s-preserved : goal.loop-s-preserved
 unfolding subset subset_table
 loop-s-preserved c =
-    let z = c.requires.0 in
+    let z = c.args.size.fits in
     let g = c.loop-s.invariant in
     let h = c.loop-s-test.true in
     elim c.if-x-top.branch [
