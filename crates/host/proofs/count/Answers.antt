@@ -1,5 +1,4 @@
 -- `host::count` meets its contract. Assumes nothing.
-use mathlib.Core.Path.{ap, ◌∙◌, refl}
 use Rattle.host.proofs.NumberLaws.{count_refused, count_done}
 use Rattle.host.proofs.count.Goals as goal
 
