@@ -159,6 +159,7 @@ fn sweep_black(st: &mut [u16], words: &[u32], lane: Lane, p: usize, v: usize) ->
     let mut len = usize::from(st[Slab::LENGTHS + lane.number]);
     while i < len {
         let w = word_at(st, words, lane.number, i);
+        // The library has no From from 32 bits to a place.
         if ((w >> shift) % 16) as usize == p {
             len -= 1;
             remove(st, lane, i, len, w);

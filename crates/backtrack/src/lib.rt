@@ -53,7 +53,8 @@ fn settle(st: &[u16], n: usize, wanted: bool, cells: &mut [u8])
     }
 }
 
-// The number of grids that fit, at most max; the first is written to cells if it is wanted.
+// The number of grids that fit, at most max; the first is written to cells if it is wanted. No Option of the cells: what one points at afterwards is, in a
+// contract, a sum over its variants (tried), and the flag says it in a word.
 pub fn search(
     st: &mut [u16],
     words: &[u32],

@@ -37,6 +37,7 @@ pub struct Lines<'a> {
     pub ghost inside: { (i j : ℕ) → i < count → j < count → i * step + j * stride < length cells.now },
 }
 
+// Rows and columns each have numbers of their own: one function for both would take them all, or which of the two it is.
 impl<'a> Lines<'a> {
     // The rows of a grid of n * n cells.
     pub fn rows(cells: &'a [u8], size: GridSize) -> Lines<'a>
@@ -67,7 +68,8 @@ impl<'a> Lines<'a> {
     // Line i.
     pub fn line(self, i: usize) -> Line<'a>
         requires { i < self.count }
-        ensures { (result.cells.now ≡ self.entry.cells.now) × (result.start ≡ i * self.entry.step) × (result.stride ≡ self.entry.stride) × (result.len ≡ self.entry.count) }
+        ensures { (result.cells.now ≡ self.entry.cells.now) × (result.start ≡ i * self.entry.step)
+            × (result.stride ≡ self.entry.stride) × (result.len ≡ self.entry.count) }
     {
         Line {
             cells: self.cells,

@@ -1,4 +1,4 @@
-// The calls of a host in a unit: answers become numbers, and a table of candidates becomes bytes.
+// The calls of a host in a unit: answers become numbers, and a table of candidates becomes bytes. What they take is as C gives it, size and slices one by one.
 #![tactic(auto)]
 
 ghost use Rattle.std.specs.Prelude.{◌≡◌, min, length};

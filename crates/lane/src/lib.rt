@@ -16,6 +16,7 @@ pub struct Lane {
     pub len: usize,
 }
 
+// A row and a column each have numbers of their own: one function for both would take them all, or which of the two it is.
 impl Lane {
     pub fn row(len: usize, r: usize) -> Lane
         requires { r < 9 }

@@ -93,7 +93,8 @@ impl Side {
 
 // The arrangements of subset s from each start of one side.
 fn list_starts(st: &mut [u16], words: &[u32], lane: Lane, side: Side, s: usize)
-    requires { AddAsk lane.len lane.number lane.first words.now st.old (starts_from lane.len (is_outside side) s (size_in s) 0) × StartsAsk lane.len s (size_in s) }
+    requires { AddAsk lane.len lane.number lane.first words.now st.old (starts_from lane.len (is_outside side) s (size_in s) 0)
+        × StartsAsk lane.len s (size_in s) }
     ensures { Added lane.len lane.number st.old st.new (starts_from lane.len (is_outside side) s (size_in s) 0) }
 {
     let len = usize::from(Subset::ALL[s] / 8192);

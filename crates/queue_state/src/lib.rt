@@ -1,6 +1,8 @@
 // The state of the queue solver in one slice of numbers, and its primitives (in the Rust: QueueSolverState and clear_mask).
 // What stands where is said twice, by the same names: here for the code, in specs/Layout.antt for the definitions.
 // A cell has the place row * 9 + column, a line the number row or 9 + column, at every size.
+// The project lends the state as a slice, with the size beside it, and copies no large struct. What a function asks of it stands in a contract and not in a
+// type: a type would ask it at all times, and between two steps it does not hold.
 #![tactic(auto)]
 
 ghost use Rattle.std.specs.Prelude.{◌≡◌, ◌-◌, ◌<◌, get_or, set};
@@ -46,6 +48,7 @@ fn strike(st: &mut [u16], cell: usize, v: usize)
 {
     let t = usize::from(st[Slab::TAIL]);
     st[cell] = st[cell] - (1u16 << v);
+    // By `as`, as wherever the state gets a number: proved to fit, and the library has no From into fewer bits.
     st[Slab::QUEUE + t] = (cell * 16 + v) as u16;
     st[Slab::TAIL] = (t + 1) as u16;
 }

@@ -23,7 +23,7 @@ pub enum Refusal {
 }
 
 impl Refusal {
-    // The number by which hosts know it.
+    // The number by which hosts know it, by `as`: the library has no From for an enum's number.
     pub fn number(self) -> u8
         ensures { result ≡ refusal_number self }
     {

@@ -5,7 +5,8 @@
 ghost use Rattle.std.specs.Prelude.{◌≡◌, ◌+◌, ◌*◌, ◌<◌};
 ghost use Rattle.lane.specs.Lanes.{lane_black, lane_value};
 ghost use Rattle.queue_state.specs.Layout.{places_at};
-ghost use Rattle.singles.specs.Handling.{HalfAsk, HalfDone, SingletonAsk, SingletonDone, FindAsk, PlaceFound, PlacesAsk, PlacesDone, HiddenAsk, HiddenDone, BlacksAsk, BlacksDone, ConsistencyAsk, ConsistencyDone};
+ghost use Rattle.singles.specs.Handling.{HalfAsk, HalfDone, SingletonAsk, SingletonDone, FindAsk, PlaceFound, PlacesAsk, PlacesDone};
+ghost use Rattle.singles.specs.Handling.{HiddenAsk, HiddenDone, BlacksAsk, BlacksDone, ConsistencyAsk, ConsistencyDone};
 
 use lane::Lane;
 use queue_state::{Slab, clear_mask, lower};
@@ -14,13 +15,15 @@ use value::{Candidate, Value};
 
 // A strike of x: the counter of its cell's half of one of its lines falls, if x is of that half; a half with one candidate left is set to it.
 fn update_half(st: &mut [u16], lane: Lane, x: Candidate, counters: usize, mask: u16)
-    requires { HalfAsk lane.len st.old (lane_value lane x.value) (counters + (x.row * 9 + x.column)) (x.row * 9 + x.column) mask × (x.row < 9) × (x.column < 9) }
+    requires { HalfAsk lane.len st.old (lane_value lane x.value) (counters + (x.row * 9 + x.column)) (x.row * 9 + x.column) mask
+        × (x.row < 9) × (x.column < 9) }
     ensures { HalfDone lane.len st.old st.new (lane_value lane x.value) (counters + (x.row * 9 + x.column)) (x.row * 9 + x.column) mask }
 {
     let cell = x.cell();
     if lane.has(x.value) && lower(st, counters + cell) == 1 {
         let left = st[cell] & mask;
         if left.count_ones() == 1 {
+            // The library has no From from 32 bits to a place.
             let value = left.trailing_zeros() as usize;
             set_cell(st, lane.len, Candidate { value, ..x });
         }
@@ -69,7 +72,8 @@ pub fn update_hidden_singles(st: &mut [u16], n: usize, x: Candidate)
 
 // The counter of a cell's blacks of one line falls, if x is one of them; where none is left, those of the other line are struck.
 fn update_blacks(st: &mut [u16], lane: Lane, x: Candidate, counters: usize, mask: u16)
-    requires { BlacksAsk lane.len st.old (lane_black lane x.value) (counters + (x.row * 9 + x.column)) (x.row * 9 + x.column) mask × (x.row < 9) × (x.column < 9) }
+    requires { BlacksAsk lane.len st.old (lane_black lane x.value) (counters + (x.row * 9 + x.column)) (x.row * 9 + x.column) mask
+        × (x.row < 9) × (x.column < 9) }
     ensures { BlacksDone lane.len st.old st.new (lane_black lane x.value) (counters + (x.row * 9 + x.column)) (x.row * 9 + x.column) mask }
 {
     let cell = x.cell();

@@ -12,7 +12,7 @@ pub struct Unit {
 }
 
 impl Unit {
-    // Takes sizes up to 9 and any list.
+    // Takes sizes up to 9 and any list. A function for each unit, so that its limits are tied to the definition here.
     pub fn hall() -> Unit
         ensures { result ≡ hall }
     {

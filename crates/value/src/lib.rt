@@ -1,5 +1,6 @@
 // The values of a cell, and the masks of its candidates by the size (in the Rust: CellDomain and the masks of QueueSolverState).
-// Inside the engine a value is its own candidate bit: digit d is bit d, and the four blacks are bits 8 to 11 at every size.
+// Inside the engine a value is its own candidate bit: digit d is bit d, and the four blacks are bits 8 to 11 at every size. So it is a number: an enum would
+// become its number again at each mask and each place of the state.
 #![tactic(auto)]
 
 ghost use Rattle.std.specs.Prelude.{◌≡◌, ◌+◌, ◌*◌, ◌/◌, ◌%◌, ◌<◌};
@@ -115,6 +116,7 @@ impl Iterator for Bits {
         }
         let v = self.rest.trailing_zeros();
         self.rest -= 1 << v;
+        // The library has no From from 32 bits to a place.
         Some(v as usize)
     }
 }

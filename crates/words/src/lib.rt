@@ -1,6 +1,7 @@
 // Arrangements of a line by number, and each of them packed into one word (in the Rust: the arrangements of QueueSolver, with their cells and patterns).
-// An arrangement has the number subset * 9 + start. A word has its set of digits in bits 0 to 7 (digit d is bit d), its inner places in bits 8 to 16, the
-// places of the line's first and second black in bits 17 to 20 and 21 to 24, and bit 25 if it begins with the second one, around the line's end.
+// An arrangement has the number subset * 9 + start, by which it stands in the lists of the state. A word has its set of digits in bits 0 to 7 (digit d is
+// bit d), its inner places in bits 8 to 16, the places of the line's first and second black in bits 17 to 20 and 21 to 24, and bit 25 if it begins with the
+// second one, around the line's end.
 #![tactic(auto)]
 
 ghost use Rattle.std.specs.Prelude.{◌≡◌, ◌+◌, ◌≤◌, ◌<◌, length, eqb, not};
@@ -29,7 +30,7 @@ impl Subset {
         38116, 46204, 46266, 46294, 38376, 46524, 46554, 46566, 54654, 38640, 46812, 46826, 54974,
         47084, 47090, 55262, 47348, 55534, 47608, 55798, 56058, 56316, 64766,
     ];
-    // Where the subsets of each sum from 0 to 28 begin, and where the last ends.
+    // Where the subsets of each sum from 0 to 28 begin, and where the last ends: one constant table, which nobody searches, was asked for.
     pub const FROM_SUM: [usize; 30] = [
         0, 1, 2, 3, 5, 7, 10, 14, 19, 24, 30, 37, 44, 52, 60, 68, 76, 84, 91, 98, 104, 109, 114,
         118, 121, 123, 125, 126, 127, 128,
@@ -45,7 +46,7 @@ pub fn from_sum(k: usize) -> usize
     Subset::FROM_SUM[k]
 }
 
-// The set of digits.
+// The set of digits. By `as` here and below: a part of a word is proved to fit, and the library has no From into fewer bits.
 pub fn set_of(w: u32) -> u16
     ensures { result ≡ set_of w }
 {

@@ -30,6 +30,7 @@ fn read_cell(st: &[u16], n: usize, r: usize, c: usize) -> u8
     if digits == 0 {
         Value::BLACK
     } else {
+        // Proved to fit: the library has no From into fewer bits.
         digits.trailing_zeros() as u8
     }
 }
