@@ -46,7 +46,7 @@ impl Call {
         }
     }
 
-    // The tag of its records.
+    // The tag of its records, read by `as`: an enum's number has no `From`.
     pub fn tag(self) -> u8
         ensures { result ≡ tag_of self }
     {
@@ -94,6 +94,7 @@ pub fn field_start(list: &[u8], k: usize) -> usize
     ensures { (result ≡ field_start list.now k) × (result < 1000000) }
 {
     let mut at = 1;
+    // A count: each field says where the next one begins.
     for _ in 0..k {
         at += 2 + usize::from(u16::from_be_bytes([byte(list, at), byte(list, at + 1)]));
     }

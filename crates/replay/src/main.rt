@@ -14,15 +14,15 @@ use std::io::{ErrorKind, Read};
 // A line such as "target sums: 213 replayed, 0 differ" for each call, and one for all.
 fn print_report(rt: &impl Print, list: &[u8]) -> io::Result<()> {
     for call in Call::ALL {
-        let tag = usize::from(call.tag());
-        let tally = replay_list(list, tag, tag);
+        let tally = replay_list(list, |read| read == Some(call));
         println!(rt;
             "{call}: {} replayed, {} differ",
             tally.replayed, tally.differ
         )?;
     }
-    let all = replay_list(list, 0, 255);
+    let all = replay_list(list, |_| true);
     println!(rt; "{} answers, {} differ", all.replayed, all.differ)?;
+    // The tally is asked first: where nothing differs, the calls need not be run once more to find where.
     if 0 < all.differ
         && let Some(at) = first_difference(list)
     {
@@ -39,6 +39,7 @@ fn read_full<R: Read>(reader: &mut R, room: &mut [u8]) -> io::Result<usize>
     ensures again { IfErr result (λ e. error_kind e ≢ ErrorKind.Interrupted) }
 {
     let mut done = 0;
+    // To 2^64: a signal may come any number of times, and a loop without an end would need a handle.
     for _ in 0..u64::MAX {
         if done == room.len() {
             return Ok(done);

@@ -1,5 +1,5 @@
 -- Laws of replaying a list of answers. Assumes nothing.
-use Rattle.std.proofs.Common.{ℕ, ◌+◌, ◌-◌, ◌≤◌, ◌<◌, ◌≡◌, sym, ap, ◌∙◌, subst, Bool, true, false, ◌&&◌, not, List, [], ◌∷◌, length, take, drop, Some, arith, zero-add, add-zero}
+use Rattle.std.proofs.Common.{ℕ, ◌+◌, ◌-◌, ◌≤◌, ◌<◌, ◌≡◌, sym, ap, ◌∙◌, subst, Bool, true, false, ◌&&◌, not, List, [], ◌∷◌, length, take, drop, Option, Some, arith, zero-add, add-zero}
 use Rattle.std.proofs.lemmas.Bool.{false≢true}
 use lib.ListN.{length-drop, drop_of_length-le}
 use lib.Seq.{take_all, drop-drop}
@@ -10,7 +10,7 @@ use Rattle.record_fields.specs.Fields.{tag, field_count, field_start, record_len
 use Rattle.record_fields.proofs.FieldLaws.{start_positive, readable_within}
 use Rattle.replay_records.specs.declared.Outcome.{Outcome}
 use Rattle.replay_records.specs.declared.Tally.{Tally}
-use Rattle.replay_records.specs.Replay.{step, FindsAs, kind_of, Replayed, in_kinds, as_number, RecordsTallied, none, more, FirstDifference, at_end, here, later}
+use Rattle.replay_records.specs.Replay.{step, FindsAs, Replayed, as_number, RecordsTallied, none, more, FirstDifference, at_end, here, later}
 
 -- A record was read and its call run.
 pub replayed_one :
@@ -33,24 +33,24 @@ some_left [] e = absurd (false≢true e)
 some_left (x ∷ rest) e = omega arith
 
 -- What is counted from here on completes a tally.
-pub record Completes (first last : ℕ) (xs rest : List ℕ) (t : Tally) : Type 0 where
-  pub completes : (k d : ℕ) → RecordsTallied first last k d rest → RecordsTallied first last (t.replayed + k) (t.differ + d) xs
+pub record Completes (Wanted : Option Call → Bool → Type 0) (xs rest : List ℕ) (t : Tally) : Type 0 where
+  pub completes : (k d : ℕ) → RecordsTallied Wanted k d rest → RecordsTallied Wanted (t.replayed + k) (t.differ + d) xs
   pub replayed_few : t.replayed + length rest ≤ length xs
   pub differ_few : t.differ + length rest ≤ length xs
 
-module _ (first last : ℕ) (xs : List ℕ) where
-  pub tallied_begin : Completes first last xs xs (record { replayed = 0; differ = 0 })
+module _ (Wanted : Option Call → Bool → Type 0) (xs : List ℕ) where
+  pub tallied_begin : Completes Wanted xs xs (record { replayed = 0; differ = 0 })
   tallied_begin = record { completes = λ k d h. rw (zero-add k, zero-add d) h; replayed_few = omega arith; differ_few = omega arith }
 
-  pub tallied_end : (t : Tally) (rest : List ℕ) → length rest ≡ 0 → Completes first last xs rest t → RecordsTallied first last t.replayed t.differ xs
+  pub tallied_end : (t : Tally) (rest : List ℕ) → length rest ≡ 0 → Completes Wanted xs rest t → RecordsTallied Wanted t.replayed t.differ xs
   tallied_end t [] e c = rw (add-zero t.replayed, add-zero t.differ) at (c.completes 0 0 none)
   tallied_end t (x ∷ rest) e c = absurd (omega arith)
 
   -- One record more is replayed, and counted or not.
-  module _ (rest : List ℕ) (o : Outcome) (t u : Tally) (h : 0 < length rest) (r : Replayed rest o) (c : Completes first last xs rest t) where
+  module _ (rest : List ℕ) (o : Outcome) (t u : Tally) (h : 0 < length rest) (r : Replayed rest o) (c : Completes Wanted xs rest t) where
     pub tallied_more :
-        (counted : Bool) → counted ≡ in_kinds first last (kind_of o.call) → u.replayed ≡ t.replayed + as_number counted
-        → u.differ ≡ t.differ + as_number (counted && not o.agrees) → Completes first last xs (take (length rest - o.length) (drop o.length rest)) u
+        (counted : Bool) → Wanted o.call counted → u.replayed ≡ t.replayed + as_number counted
+        → u.differ ≡ t.differ + as_number (counted && not o.agrees) → Completes Wanted xs (take (length rest - o.length) (drop o.length rest)) u
     tallied_more counted is p q =
         let long : length (drop o.length rest) ≡ length rest - o.length = length-drop o.length rest in
         let whole : take (length rest - o.length) (drop o.length rest) ≡ drop o.length rest = take_all _ _ (omega (arith, long)) in
@@ -59,7 +59,7 @@ module _ (first last : ℕ) (xs : List ℕ) where
           completes = λ k d there.
               let e : t.replayed + (as_number counted + k) ≡ u.replayed + k = omega (arith, p) in
               let f : t.differ + (as_number (counted && not o.agrees) + d) ≡ u.differ + d = omega (arith, q) in
-              rw (← e, ← f, is, r.kind_is) (c.completes _ _ (more h r.agrees_is (rw (whole, r.length_is) at there)));
+              rw (← e, ← f) (c.completes _ _ (more h r.agrees_is r.kind_is is (rw (whole, r.length_is) at there)));
           replayed_few = rw whole (omega (arith, long, p, most counted, r.onward h, r.within, c.replayed_few));
           differ_few = rw whole (omega (arith, long, q, most (counted && not o.agrees), r.onward h, r.within, c.differ_few));
         }

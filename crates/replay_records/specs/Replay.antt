@@ -49,20 +49,29 @@ pub record Replayed (xs : List ℕ) (o : Outcome) : Type 0 where
   pub onward : 0 < length xs → 0 < o.length
   pub agrees_is : RecordTested o.agrees xs
 
--- A kind from first to last is counted.
-abbrev pub in_kinds : ℕ → ℕ → ℕ → Bool
-in_kinds first last k = leb first k && leb k last
-
 -- 1 for yes, 0 for no.
 abbrev pub as_number : Bool → ℕ
 as_number b = cond b 1 0
 
--- Of the records of a list whose kind is from first to last, there are some number, and in some number of these the engine answers otherwise.
-pub data RecordsTallied (first last : ℕ) : ℕ → ℕ → List ℕ → Type 0 where
-  none : RecordsTallied first last 0 0 []
+-- Of the records of a list that are wanted, there are some number, and in some number of these the engine answers otherwise. Whether a record is wanted is
+-- what is answered at its call, or at none where it cannot be read.
+pub data RecordsTallied (Wanted : Option Call → Bool → Type 0) : ℕ → ℕ → List ℕ → Type 0 where
+  none : RecordsTallied Wanted 0 0 []
   more :
-      {k d : ℕ} {xs : List ℕ} {agrees : Bool} → 0 < length xs → RecordTested agrees xs → RecordsTallied first last k d (drop (step xs) xs)
-      → RecordsTallied first last (as_number (in_kinds first last (kind xs)) + k) (as_number (in_kinds first last (kind xs) && not agrees) + d) xs
+      {k d : ℕ} {xs : List ℕ} {agrees wanted : Bool} {call : Option Call} → 0 < length xs → RecordTested agrees xs → kind_of call ≡ kind xs
+      → Wanted call wanted → RecordsTallied Wanted k d (drop (step xs) xs)
+      → RecordsTallied Wanted (as_number wanted + k) (as_number (wanted && not agrees) + d) xs
+
+-- A kind from first to last is counted.
+abbrev pub in_kinds : ℕ → ℕ → ℕ → Bool
+in_kinds first last k = leb first k && leb k last
+
+-- Of the records of a list whose kind is from first to last, there are some number, and in some number of these the engine answers otherwise.
+pub data KindsTallied (first last : ℕ) : ℕ → ℕ → List ℕ → Type 0 where
+  kinds_none : KindsTallied first last 0 0 []
+  kinds_more :
+      {k d : ℕ} {xs : List ℕ} {agrees : Bool} → 0 < length xs → RecordTested agrees xs → KindsTallied first last k d (drop (step xs) xs)
+      → KindsTallied first last (as_number (in_kinds first last (kind xs)) + k) (as_number (in_kinds first last (kind xs) && not agrees) + d) xs
 
 -- Where the first record of a list begins in which the engine answers otherwise; the end of the list where there is none.
 pub data FirstDifference : ℕ → List ℕ → Type 0 where

@@ -7,7 +7,7 @@ mod solver_calls;
 
 ghost use Rattle.std.specs.Prelude.{◌≡◌, ◌+◌, ◌<◌, ◌^◌, not, length, MatchOption};
 ghost use Rattle.record_fields.specs.Calls.{tag_of};
-ghost use Rattle.replay_records.specs.Replay.{FindsAs, Replayed, kind_of, in_kinds, as_number, RecordsTallied, FirstDifference};
+ghost use Rattle.replay_records.specs.Replay.{FindsAs, Replayed, as_number, RecordsTallied, FirstDifference};
 
 use arrayvec::ArrayVec;
 use calls::{line_check_agrees, mark_sheet_agrees, target_sums_agree};
@@ -77,34 +77,18 @@ pub fn replay(list: &[u8]) -> Outcome
     }
 }
 
-// The kind of a record: its call's tag, or 0 where it has none.
-fn kind(call: Option<Call>) -> usize
-    ensures { result ≡ kind_of call }
-{
-    match call {
-        Some(call) => usize::from(call.tag()),
-        None => 0,
-    }
-}
-
-// Whether the kind of a record is from first to last.
-fn is_counted(first: usize, last: usize, call: Option<Call>) -> bool
-    ensures { result ≡ in_kinds first last (kind_of call) }
-{
-    let kind = kind(call);
-    first <= kind && kind <= last
-}
-
-// How many records of a list have a kind from first to last, and in how many of these the engine answers otherwise.
-pub fn replay_list(list: &[u8], first: usize, last: usize) -> Tally
-    ensures { RecordsTallied first last result.replayed result.differ list.now }
+// How many records of a list are wanted, and in how many of these the engine answers otherwise. A record is asked for by its call, and what cannot be
+// read by none.
+pub fn replay_list<F: Fn(Option<Call>) -> bool>(list: &[u8], wanted: F) -> Tally
+    requires { F.IsAlwaysCallable wanted }
+    ensures { RecordsTallied (F.post wanted) result.replayed result.differ list.now }
 {
     let mut tally = Tally::default();
     let mut rest = list;
     // A while, here and in first_difference: where the next record begins is known once this one is read.
     while !rest.is_empty() {
         let outcome = replay(rest);
-        if is_counted(first, last, outcome.call) {
+        if wanted(outcome.call) {
             tally.add(outcome.agrees);
         }
         rest = &rest[outcome.length..];

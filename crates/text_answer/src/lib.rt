@@ -14,7 +14,10 @@ pub fn write_text<const N: usize>(text: &[u8], out: &mut ArrayVec<u8, N>)
     requires { array_vec_len out.old + length text.now ≤ N }
     ensures { out.new.items ≡ out.old.items ++ text.now }
 {
-    out.try_extend_from_slice(text).unwrap();
+    // Byte by byte: `try_extend_from_slice` looks again whether there is room.
+    for b in text {
+        out.push(*b);
+    }
 }
 
 // A refusal number in decimal.
@@ -75,6 +78,7 @@ fn write_grid<const N: usize>(n: usize, cells: &[u8], out: &mut ArrayVec<u8, N>)
     requires { GridAsk n cells.now (N - array_vec_len out.old) }
     ensures { out.new.items ≡ out.old.items ++ grid_text n cells.now }
 {
+    // By number: `chunks(n)` asks that n is not 0.
     for r in 0..n {
         let start = r * n;
         write_row(r, &cells[start..start + n], out);

@@ -55,6 +55,8 @@ fn solve_targets<const N: usize>(
 }
 
 // The answer to a puzzle with its row targets in front of its column targets.
+// Not inlined: a refused line would have the large frame of the solver too.
+#[inline(never)]
 fn answer_targets<const N: usize>(size: GridSize, targets: &[u8], out: &mut ArrayVec<u8, N>)
     requires { TargetsAsk size.n targets.now (N - array_vec_len out.old) }
     ensures { PuzzleText (puzzle size.n (take size.n targets.now) (drop size.n targets.now)) out.old.items out.new.items }

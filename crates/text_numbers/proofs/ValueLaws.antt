@@ -1,9 +1,10 @@
 -- The value of a field, digit by digit. Assumes nothing.
-use Rattle.std.proofs.Common.{ℕ, ◌+◌, ◌-◌, ◌*◌, ◌≤◌, ◌<◌, ◌≡◌, ◌⊎◌, inl, inr, refl, sym, ◌∙◌, Bool, true, false, ◌&&◌, List, [], ◌∷◌, length, get_or, drop, Some, None, arith, add-one}
+use Rattle.std.proofs.Common.{ℕ, ◌+◌, ◌-◌, ◌*◌, ◌≤◌, ◌<◌, ◌≡◌, ◌⊎◌, inl, inr, refl, sym, ◌∙◌, Bool, true, false, ◌&&◌, List, [], ◌∷◌, length, get_or, drop, Some, None, Result, Ok, Err, OkIff, ap, arith, add-one}
 use lib.ListN.{drop_of_length-le}
 use lib.Seq.{drop-cons}
 use borrow.Author.Tests.{eq-eqb, ne_eqb, le-leb, lt-leb}
 use Rattle.std.specs.Bool.{then_some}
+use Rattle.std.specs.Result.{result_ok}
 use Rattle.tally.specs.Tally.{all}
 use Rattle.text_rules.specs.Fields.{is_digit, value_from, value, is_decimal, shaped}
 use Rattle.text_numbers.specs.Read.{value_if}
@@ -22,6 +23,11 @@ value_above v f h = rw (lt-leb (value_from v f) 255 (omega (arith, value_least v
     neither : (t : Bool) → then_some (t && false) (value_from v f) ≡ None
     neither true = refl
     neither false = refl
+
+-- A number below 256 is a byte.
+pub byte_ok : {E : Type 0} (r : Result ℕ E) (v : ℕ) → OkIff r (v < 256) v → v < 256 → result_ok r ≡ Some v
+byte_ok (Ok x) v o h = ap Some o.1
+byte_ok (Err e) v o h = absurd (o h)
 
 -- The digits in front of a place have the value v.
 pub record Valued (f : List ℕ) (v i : ℕ) : Type 0 where

@@ -12,14 +12,18 @@ use arrayvec::ArrayVec;
 fn value(field: &[u8]) -> Option<u8>
     ensures { result ≡ value_if 0 field.now }
 {
-    let mut v: u8 = 0;
+    let mut v: u32 = 0;
     for b in field {
         if !b.is_ascii_digit() {
             return None;
         }
-        v = v.checked_mul(10)?.checked_add(*b - b'0')?;
+        // One test of the value for each digit, where `checked_mul` and `checked_add` make two.
+        v = v * 10 + u32::from(*b - b'0');
+        if 255 < v {
+            return None;
+        }
     }
-    Some(v)
+    u8::try_from(v).ok()
 }
 
 // The value of a decimal, which is not empty, and begins with a zero only where that is all of it.
@@ -33,11 +37,14 @@ fn decimal(field: &[u8]) -> Option<u8>
     }
 }
 
+// The most bytes of a line.
+const LONGEST: usize = 80;
+
 // The numbers of a line, if it is well formed; the room holds them.
 pub fn read_numbers<'a>(line: &[u8], room: &'a mut ArrayVec<u8, 41>) -> Option<&'a [u8]>
     ensures { MatchOption result (well_formed line.now ≡ false) (λ ns. (well_formed line.now ≡ true) × (ns.now ≡ numbers line.now)) }
 {
-    if 80 < line.len() {
+    if LONGEST < line.len() {
         return None;
     }
     room.clear();

@@ -94,6 +94,14 @@ kept_on line xs {kept} k = go (dec_lt (length line) 81)
         let n : 81 - length kept ≡ 0 = omega (arith, ap length k, length-take 81 line) in
         ap (λ m. kept ++ take m xs) n ∙ append-nil kept ∙ k ∙ sym (take-append-le 81 line xs (omega arith))
 
+nothing_kept : (line : List ℕ) → 0 ≡ length (take 81 line) → line ≡ []
+nothing_kept [] e = refl
+nothing_kept (b ∷ line) e = absurd (omega arith)
+
+none_in : (kept : List ℕ) → length kept ≡ 0 → kept ≡ []
+none_in [] e = refl
+none_in (b ∷ kept) e = absurd (omega arith)
+
 -- ---- a block
 
 -- What is passed of a block is fed.
@@ -114,9 +122,10 @@ feeding_start block kept out =
 
 module _ {block kept₀ out₀ rest kept out : List ℕ} (w : Feeding block kept₀ out₀ rest kept out) where
   -- A line of the block, and its end.
-  pub feeding_next : (i : ℕ) {kept' kept'' out' : List ℕ} → Some i ≡ position is_end rest → kept' ≡ kept ++ take (81 - length kept) (take i rest)
-      → LineEnded kept' out out' → kept'' ≡ [] → Feeding block kept₀ out₀ (take (length rest - (i + 1)) (drop (i + 1) rest)) kept'' out'
-  feeding_next i {kept'} {kept''} {out'} e is v empty =
+  next : (i : ℕ) {l kept' out' : List ℕ} → Some i ≡ position is_end rest
+      → ((left text : List ℕ) → Keeps kept left → Answered l text → Answered (left ++ take i rest) text) → LineEnded l out out' → kept' ≡ []
+      → Feeding block kept₀ out₀ (take (length rest - (i + 1)) (drop (i + 1) rest)) kept' out'
+  next i e same v empty =
       let line : List ℕ = take i rest in
       let at_end = position-Some is_end rest i 0 (sym e) in
       let cut : drop i rest ≡ line_end ∷ drop (i + 1) rest =
@@ -131,19 +140,30 @@ module _ {block kept₀ out₀ rest kept out : List ℕ} (w : Feeding block kept
         count = omega (arith, v.most, w.count, length-append w.passed (line ++ line_end ∷ []), length-append line (line_end ∷ []));
         goes_on = λ begun k.
             let g = w.goes_on begun k in
-            let answers : Answered (g.left ++ line) v.text =
-            answered_kept (g.left ++ line) v.text (subst (λ l. Answered l v.text) (is ∙ kept_on g.left line g.keeps) v.answers) in
             record {
               left = [];
               output = g.output ++ (v.text ++ line_end ∷ []);
-              writes = written_then g.writes (ended v.text answers (written_to_end g.left rest i (sym e)));
+              writes = written_then g.writes (ended v.text (same g.left v.text g.keeps v.answers) (written_to_end g.left rest i (sym e)));
               keeps = empty;
               put = v.put ∙ ap (λ l. l ++ (v.text ++ line_end ∷ [])) g.put ∙ append_assoc out₀ g.output (v.text ++ line_end ∷ []);
             };
       }
 
+  -- It is answered where it stands.
+  pub feeding_line : (i : ℕ) {out' : List ℕ} → Some i ≡ position is_end rest → length kept ≡ 0 → LineEnded (take i rest) out out'
+      → Feeding block kept₀ out₀ (take (length rest - (i + 1)) (drop (i + 1) rest)) kept out'
+  feeding_line i e z v =
+      next i e (λ left text k a. subst (λ l. Answered (l ++ take i rest) text) (sym (nothing_kept left (sym z ∙ ap length k))) a) v (none_in kept z)
+
+  -- It goes on with what is kept.
+  pub feeding_next : (i : ℕ) {kept' kept'' out' : List ℕ} → Some i ≡ position is_end rest → kept' ≡ kept ++ take (81 - length kept) (take i rest)
+      → LineEnded kept' out out' → kept'' ≡ [] → Feeding block kept₀ out₀ (take (length rest - (i + 1)) (drop (i + 1) rest)) kept'' out'
+  feeding_next i e is v empty =
+      next i e (λ left text k a. answered_kept _ text (subst (λ l. Answered l text) (is ∙ kept_on left (take i rest) k) a)) v empty
+
   -- What stands behind the last line end of the block.
-  pub feeding_end : {s s' : Stream} → s.kept.items ≡ kept₀ → None ≡ position is_end rest → s'.kept.items ≡ kept ++ take (81 - length kept) rest → BlockFed s s' block out₀ out
+  pub feeding_end : {s s' : Stream} → s.kept.items ≡ kept₀ → None ≡ position is_end rest → s'.kept.items ≡ kept ++ take (81 - length kept) rest
+      → BlockFed s s' block out₀ out
   feeding_end {s} {s'} is₀ e is =
       record {
         carries = λ input output before.
@@ -161,10 +181,6 @@ module _ {block kept₀ out₀ rest kept out : List ℕ} (w : Feeding block kept
 
 pub begun : {s : Stream} → s.kept.items ≡ [] → Begun s
 begun e = record { left = []; writes = nothing; keeps = e }
-
-nothing_kept : (line : List ℕ) → 0 ≡ length (take 81 line) → line ≡ []
-nothing_kept [] e = refl
-nothing_kept (b ∷ line) e = absurd (omega arith)
 
 pub last_none : {s : Stream} (out : List ℕ) → length s.kept.items ≡ 0 → LastGiven s out out
 last_none {s} out z =

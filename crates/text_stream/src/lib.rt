@@ -58,9 +58,15 @@ impl Stream {
         let mut rest = block;
         // From line end to line end: with a step for each byte a refused line took twice the time.
         while let Some(end) = line_end(rest) {
-            self.keep(&rest[..end]);
-            end_line(&self.kept, out);
-            self.kept.clear();
+            let line = &rest[..end];
+            if !self.kept.is_empty() {
+                self.keep(line);
+                end_line(&self.kept, out);
+                self.kept.clear();
+            } else {
+                // It lies in the block as a whole: to copy it and to clear the copy took a quarter of a short line's time.
+                end_line(line, out);
+            }
             rest = &rest[end + 1..];
         }
         self.keep(rest);
