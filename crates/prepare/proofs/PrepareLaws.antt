@@ -1,16 +1,12 @@
 -- Preparing, step by step. Assumes nothing.
-use Prim.Native.Nat.{ℕ, zero, suc, ◌≤◌, ◌<◌}
-use mathlib.Core.Path.{◌≡◌, refl, sym, ◌∙◌, subst}
+use Prim.Native.Nat.{ℕ}
+use mathlib.Core.Path.{◌≡◌, refl, sym, ◌∙◌}
 use mathlib.Core.Bool.{Bool, true, false, true≢false}
-use mathlib.Core.List.{List, [], ◌∷◌, Memᴰ}
-use native.Mathlib.Omega.{arith}
-use lib.Dec.{leb}
-use lib.ListN.{length, get_or}
-use borrow.Author.Tests.{leb-true}
-use Rattle.tally.specs.Tally.{all}
-use Rattle.tally.proofs.TallyLaws.{and_left, and_right, false_of}
+use mathlib.Core.List.{List, Memᴰ}
+use lib.ListN.{length}
+use Rattle.tally.proofs.TallyLaws.{false_of}
 use Rattle.rules.specs.Size.{Size}
-use Rattle.rules.specs.Check.{refusal, max_target}
+use Rattle.rules.specs.Check.{refusal}
 use Rattle.rules.specs.CheckParts.{mark_checks}
 use Rattle.rules.specs.Mark.{marks_of}
 use Rattle.table.specs.Steps.{marked_all}

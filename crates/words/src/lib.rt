@@ -53,7 +53,7 @@ pub fn set_of(w: u32) -> u16
     (w % 256) as u16
 }
 
-// The place of the line's first black, and of its second.
+// The place of the line's first black, and of its second. By name, as are the ends below: one function would take which of the two is meant, and ask it.
 pub fn first_of(w: u32) -> usize
     ensures { result ≡ first_of w }
 {
