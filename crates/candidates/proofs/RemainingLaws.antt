@@ -44,6 +44,7 @@ use Rattle.written.proofs.MaskLaws.{published_table}
 use Rattle.prepare.specs.Prepared.{Marked}
 use Rattle.engine.proofs.CountLaws.{count_left}
 use Rattle.engine.proofs.SolveLaws.{SolveAsk, solve_small}
+use Rattle.candidates.specs.declared.Outcome.{Outcome}
 use Rattle.candidates.specs.declared.Outcome.TheVariants.{Contradicted, Written}
 use Rattle.candidates.specs.Remaining.{Remaining, WrittenTable, TableGiven, Tabled}
 use Rattle.candidates.proofs.SameClosed.{closed_same}
@@ -207,12 +208,6 @@ module _ {p : Puzzle} {ms : List ℕ} {len : ℕ} (a : SolveAsk p ms len) where
 
 -- ---- the answers
 
-pub tabled_none : {p : Puzzle} {ms table : List ℕ} → number p ms ≡ 0 → Tabled p ms false table table
-tabled_none z = record { done = λ e. absurd (true≢false (sym e)); none = λ _. (z, refl) }
-
-pub tabled_done : {p : Puzzle} {ms table table' : List ℕ} → WrittenTable p ms table' → Tabled p ms true table table'
-tabled_done w = record { done = λ _. w; none = λ e. absurd (true≢false e) }
-
 pub table_refused : {u : Unit} {p : Puzzle} {ms table : List ℕ} (k : Refusal) → Err k ≡ checked (solve_checks u p ms (length table)) → TableGiven u p ms (Err k) table table
 table_refused k d =
     record {
@@ -220,9 +215,7 @@ table_refused k d =
       answered = λ e. let z : ◌≡◌ {A = Result ⊤ Refusal} (Err k) (Ok tt) = d ∙ e in cc;
     }
 
-module _ {u : Unit} {p : Puzzle} {ms table table' : List ℕ} {b : Bool} (d : Ok tt ≡ checked (solve_checks u p ms (length table))) (t : Tabled p ms b table table') where
-  pub table_written : b ≡ true → TableGiven u p ms (Ok Written) table table'
-  table_written e = record { refused = λ k x. let z : Ok tt ≡ Err k = d ∙ x in cc; answered = λ _. inl (refl, t.done e) }
-
-  pub table_none : b ≡ false → TableGiven u p ms (Ok Contradicted) table table'
-  table_none e = record { refused = λ k x. let z : Ok tt ≡ Err k = d ∙ x in cc; answered = λ _. let u = t.none e in inr (refl, u.0, u.1) }
+pub table_given : {u : Unit} {p : Puzzle} {ms table table' : List ℕ} (o : Outcome) → Ok tt ≡ checked (solve_checks u p ms (length table)) →
+    Tabled p ms o table table' → TableGiven u p ms (Ok o) table table'
+table_given Written d t = record { refused = λ k x. let z : Ok tt ≡ Err k = d ∙ x in cc; answered = λ _. inl (refl, t) }
+table_given Contradicted d t = record { refused = λ k x. let z : Ok tt ≡ Err k = d ∙ x in cc; answered = λ _. inr (refl, t.0, t.1) }

@@ -22,8 +22,8 @@ pub enum Outcome {
     Written,
 }
 
-// Writes the table of a question; false if a cell is left without candidates.
-fn write_table(q: Question, table: &mut [u16]) -> bool
+// Writes the table of a question, unless a cell is left without candidates.
+fn write_table(q: Question, table: &mut [u16]) -> Outcome
     requires { length table.old ≡ q.puzzle.size.n * q.puzzle.size.n }
     ensures { Tabled (puzzle_of q.entry.puzzle) (marks_of q.entry.marks.now) result table.old table.new }
 {
@@ -31,14 +31,14 @@ fn write_table(q: Question, table: &mut [u16]) -> bool
     let mut words = [0u32; 1152];
     let prepared = prepare(&mut st, &mut words, q);
     if !prepared {
-        return false;
+        return Outcome::Contradicted;
     }
     let rests = propagate(&mut st, &words, q.puzzle.size.n);
-    if rests {
-        write_candidates(&st, q.puzzle.size.n, table);
-        return true;
+    if !rests {
+        return Outcome::Contradicted;
     }
-    false
+    write_candidates(&st, q.puzzle.size.n, table);
+    Outcome::Written
 }
 
 // The candidates that are left of a puzzle and marks, n * n masks row by row, unless a cell is left with none.
@@ -54,9 +54,5 @@ pub fn candidates(
         result table.old table.new }
 {
     let question = check_solve(unit, size, rows, columns, marks, table.len())?;
-    if write_table(question, table) {
-        Ok(Outcome::Written)
-    } else {
-        Ok(Outcome::Contradicted)
-    }
+    Ok(write_table(question, table))
 }
