@@ -2,8 +2,8 @@
 // that is not whole is empty.
 #![tactic(auto)]
 
-ghost use Rattle.std.specs.Prelude.{◌≡◌, ◌≢◌, ◌∷◌, [], ◌≤◌, ◌<◌, true, false, length, get_or, MatchOption};
-ghost use Rattle.record_fields.specs.Fields.{tag, field_start, field_count, field as field_of, record_size, readable};
+ghost use Rattle.std.specs.Prelude.{◌≡◌, ◌∷◌, [], ◌≤◌, ◌<◌, true, false, length, get_or, MatchOption};
+ghost use Rattle.record_fields.specs.Fields.{tag, field_start, field_count, field as field_of, record_size, number_from, readable};
 ghost use Rattle.record_fields.specs.Calls.{tag_of};
 ghost use Rattle.record_fields.specs.Recorded.{Says, SumsRecorded, LongNumber, CountRecorded, BufferRecorded};
 
@@ -30,9 +30,9 @@ impl Call {
         Call::LineCheck,
     ];
 
-    // The call whose records have this tag.
+    // The call whose records have this tag: of every other tag a record has no fields.
     #[tactic(auto, unfolding(crate::specs::Fields::field_count))]
-    fn from_tag(tag: u8) -> Option<Call>
+    pub fn from_tag(tag: u8) -> Option<Call>
         ensures { MatchOption result (field_count tag ≡ 0) (λ call. tag_of call ≡ tag) }
     {
         match tag {
@@ -112,10 +112,11 @@ pub fn field(list: &[u8], k: usize) -> &[u8]
 }
 
 // The number that 8 bytes are, most significant first.
-pub fn number(bytes: &[u8]) -> Option<u64>
-    ensures { MatchOption result (length bytes.now ≢ 8) (λ v. LongNumber v bytes.now) }
+pub fn number(bytes: &[u8]) -> u64
+    requires { length bytes.now ≡ 8 }
+    ensures { result ≡ number_from 0 bytes.now }
 {
-    bytes.as_array().map(|bytes| u64::from_be_bytes(*bytes))
+    u64::from_be_bytes(*bytes.as_array().unwrap())
 }
 
 // The call of the record that the list begins with, if it is whole and its size is one byte.
@@ -169,7 +170,8 @@ pub fn is_long_number(list: &[u8], k: usize, v: u64) -> bool
     requires { k < 8 }
     ensures { Says result (LongNumber v (field_of list.now k)) }
 {
-    number(field(list, k)) == Some(v)
+    let bytes = field(list, k);
+    bytes.len() == 8 && number(bytes) == v
 }
 
 // Whether a number and a count are as recorded.

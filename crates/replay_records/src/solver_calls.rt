@@ -58,16 +58,22 @@ pub(crate) fn solve_agrees(list: &[u8]) -> bool
 pub(crate) fn count_agrees(list: &[u8]) -> bool
     ensures { Says result (CountAgrees list.now) }
 {
-    let (Some(cap), Some(mut count)) = (number(field(list, 4)), number(field(list, 5))) else {
+    let cap = field(list, 4);
+    let old = field(list, 5);
+    if cap.len() != 8 {
         return false;
-    };
+    }
+    if old.len() != 8 {
+        return false;
+    }
+    let mut count = number(old);
     let answer = host::count(
         Unit::hall(),
         size(list),
         field(list, 1),
         field(list, 2),
         field(list, 3),
-        cap,
+        number(cap),
         &mut count,
     );
     count_recorded(list, answer, count)

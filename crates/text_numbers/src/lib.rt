@@ -40,7 +40,8 @@ fn decimal(field: &[u8]) -> Option<u8>
 // The most bytes of a line.
 const LONGEST: usize = 80;
 
-// The numbers of a line, if it is well formed; the room holds them.
+// The numbers of a line, if it is well formed; the room holds them. It has 41 places, as many as a line may have numbers: with any number of places the check
+// does not admit the loop (tried).
 pub fn read_numbers<'a>(line: &[u8], room: &'a mut ArrayVec<u8, 41>) -> Option<&'a [u8]>
     ensures { MatchOption result (well_formed line.now ≡ false) (λ ns. (well_formed line.now ≡ true) × (ns.now ≡ numbers line.now)) }
 {

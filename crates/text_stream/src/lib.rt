@@ -11,7 +11,7 @@ use arrayvec::ArrayVec;
 use text_line::answer_line;
 
 // What is kept of the line that is not ended yet.
-#[derive(Drop)]
+#[derive(Clone, Drop)]
 pub struct Stream {
     pub kept: ArrayVec<u8, 81>,
 }
