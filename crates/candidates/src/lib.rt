@@ -13,6 +13,7 @@ use propagate::propagate;
 use queue_state::Slab;
 use refusal::Refusal;
 use units::Unit;
+use words::ROOM;
 use written::write_candidates;
 
 // Whether the table was written, or a cell was left with no candidate.
@@ -28,7 +29,7 @@ fn write_table(q: Question, table: &mut [u16]) -> Outcome
     ensures { Tabled (puzzle_of q.entry.puzzle) (marks_of q.entry.marks.now) result table.old table.new }
 {
     let mut st = [0u16; Slab::SIZE];
-    let mut words = [0u32; 1152];
+    let mut words = [0u32; ROOM];
     let prepared = prepare(&mut st, &mut words, q);
     if !prepared {
         return Outcome::Contradicted;

@@ -17,6 +17,7 @@ use puzzle::Puzzle;
 use queue_state::Slab;
 use refusal::Refusal;
 use units::Unit;
+use words::ROOM;
 
 // Whether a puzzle and its marks have no grid, one, or more.
 #[derive(Clone, Copy, Debug, PartialEq, Eq)]
@@ -48,7 +49,7 @@ fn find_grids(q: Question, max: u64, wanted: bool, cells: &mut [u8]) -> u64
     ensures { Found (puzzle_of q.entry.puzzle) (marks_of q.entry.marks.now) max wanted result cells.old cells.new }
 {
     let mut st = [0u16; Slab::SIZE];
-    let mut words = [0u32; 1152];
+    let mut words = [0u32; ROOM];
     if !prepare(&mut st, &mut words, q) {
         return 0;
     }
@@ -67,11 +68,10 @@ pub fn count(
     ensures { result ≡ count_answer unit (puzzle size rows.now columns.now) (marks_of marks.now) cap }
 {
     let question = check_count(unit, size, rows, columns, marks)?;
-    let mut cells = [0u8; 1];
-    Ok(find_grids(question, cap, false, &mut cells))
+    Ok(find_grids(question, cap, false, &mut []))
 }
 
-// The same with a cell buffer of the size.
+// The same, with a cell buffer of the size.
 pub fn check_solve<'a>(
     unit: Unit,
     n: usize,

@@ -9,10 +9,11 @@ use queue_state::Slab;
 use value::Value;
 
 // The cells of the grid get the mask full.
-fn fill_cells(st: &mut [u16], n: usize, full: u16)
-    requires { Blank st.old × (n ≤ 9) }
-    ensures { RowsFull st.new n n full }
+fn fill_cells(st: &mut [u16], size: GridSize, full: u16)
+    requires { Blank st.old }
+    ensures { RowsFull st.new size.n size.n full }
 {
+    let n = size.n;
     for r in 0..n {
         st[r * 9..r * 9 + n].fill(full);
     }
@@ -22,7 +23,7 @@ pub fn fresh(st: &mut [u16], size: GridSize)
     requires { Blank st.old }
     ensures { Fresh size.n st.new }
 {
-    fill_cells(st, size.n, Value::full_cell(size));
+    fill_cells(st, size, Value::full_cell(size));
     st[Slab::ROW_HALF..Slab::ROW_BLACKS].fill(size.n as u16);
     st[Slab::ROW_BLACKS..Slab::LENGTHS].fill(2);
 }

@@ -5,7 +5,8 @@ ghost use Rattle.std.specs.Prelude.{◌≡◌, ℕ, ◌+◌, ◌*◌, ◌≤◌,
 
 use grid_size::GridSize;
 
-// A line of at most nine cells: its first cell, the way from cell to cell, and how many it has.
+// A line of at most nine cells: its first cell, the way from cell to cell, and how many it has. Its cells are asked for by their places: of the walks over
+// them two begin or end within, and an iterator would be a second way beside it.
 #[derive(Clone, Copy)]
 pub struct Line<'a> {
     pub cells: &'a [u8],

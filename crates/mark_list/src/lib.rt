@@ -12,7 +12,7 @@ use refusal::Refusal;
 use units::Unit;
 use value::{Candidate, Value};
 
-// What a mark says of a candidate: that it is rejected, or else taken.
+// What a mark says of a candidate: that it is rejected, or else taken. No enum of the two: the checks ask of the candidate whichever it is.
 #[derive(Clone, Copy, Debug, PartialEq, Eq)]
 pub struct Mark {
     pub rejects: bool,
@@ -48,11 +48,7 @@ pub fn mark_at(bytes: &[u8], i: usize) -> u16
     ensures { result ≡ word_at bytes.now i }
 {
     let at = 2 * i;
-    let high = u16::from(bytes[at]);
-    if at + 1 < bytes.len() {
-        return high * 256 + u16::from(bytes[at + 1]);
-    }
-    high * 256 + 7
+    u16::from_be_bytes([bytes[at], bytes.get(at + 1).copied().unwrap_or(7)])
 }
 
 // The checks of a mark.

@@ -115,8 +115,8 @@ module _ {n : ℕ} {ws rows columns l l₁ : List ℕ} (a : Listable n ws rows c
   listed_grown : Grown l l₁
   listed_grown = counters_grown l l₁ fresh_sized d.size (λ q h. d.rest q (omega arith))
 
-  pub seed_ask : Sized l₁ × (n ≤ 9)
-  seed_ask = (grown_sized listed_grown fresh_sized, a.size.high)
+  pub seed_ask : Sized l₁
+  seed_ask = grown_sized listed_grown fresh_sized
 
   module _ {l₂ : List ℕ} (s : Struck l₁ l₂ (BareTo l₁ n n)) where
     lists : (ℓ : ℕ) → LineOf n ℓ → Lists n ℓ (target_at rows columns ℓ) l₂

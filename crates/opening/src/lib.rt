@@ -7,6 +7,7 @@ ghost use Rattle.queue_state.specs.Slab.{Sized, Struck};
 ghost use Rattle.listing.specs.Listing.{OpenAsk};
 ghost use Rattle.opening.specs.Opening.{Lacks, BareCell, BareIn, BareTo, Opened};
 
+use grid_size::GridSize;
 use listing::list_arrangements;
 use puzzle::Puzzle;
 use queue_state::{Slab, clear_mask};
@@ -44,22 +45,22 @@ fn seed_cell(st: &mut [u16], r: usize, c: usize)
     );
 }
 
-fn seed_row(st: &mut [u16], n: usize, r: usize)
-    requires { Sized st.old × (n ≤ 9) × (r < 9) }
-    ensures { Struck st.old st.new (BareIn st.old r n) }
+fn seed_row(st: &mut [u16], size: GridSize, r: usize)
+    requires { Sized st.old × (r < 9) }
+    ensures { Struck st.old st.new (BareIn st.old r size.n) }
 {
-    for c in 0..n {
+    for c in 0..size.n {
         seed_cell(st, r, c);
     }
 }
 
 // The same of every cell, row by row.
-fn seed_queue(st: &mut [u16], n: usize)
-    requires { Sized st.old × (n ≤ 9) }
-    ensures { Struck st.old st.new (BareTo st.old n n) }
+fn seed_queue(st: &mut [u16], size: GridSize)
+    requires { Sized st.old }
+    ensures { Struck st.old st.new (BareTo st.old size.n size.n) }
 {
-    for r in 0..n {
-        seed_row(st, n, r);
+    for r in 0..size.n {
+        seed_row(st, size, r);
     }
 }
 
@@ -69,5 +70,5 @@ pub fn open(st: &mut [u16], words: &[u32], p: Puzzle)
     ensures { Opened p.entry.size.n p.entry.rows.now p.entry.columns.now st.old st.new }
 {
     list_arrangements(st, words, p);
-    seed_queue(st, p.size.n);
+    seed_queue(st, p.size);
 }

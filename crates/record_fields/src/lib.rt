@@ -30,7 +30,7 @@ impl Call {
         Call::LineCheck,
     ];
 
-    // The call whose records have this tag: of every other tag a record has no fields.
+    // The call whose records have this tag: of every other tag a record has no fields. An Option and no TryFrom, whose error would say nothing.
     #[tactic(auto, unfolding(crate::specs::Fields::field_count))]
     pub fn from_tag(tag: u8) -> Option<Call>
         ensures { MatchOption result (field_count tag ≡ 0) (λ call. tag_of call ≡ tag) }

@@ -71,7 +71,7 @@ fn write_some<W: Write>(writer: &mut W, bytes: &[u8]) -> io::Result<usize>
     }
 }
 
-// Writes all bytes, or tells why not.
+// Writes all bytes, or tells why not. The library's `write_all` promises nothing of what is written where it fails.
 fn write_out<W: Write>(writer: &mut W, bytes: &[u8]) -> io::Result<()>
     ensures all { OnOk result (Appends (W.contents writer.old) (W.contents writer.new) bytes.now) }
     ensures cut { OnErr result (StartsOut (W.contents writer.old) (W.contents writer.new) bytes.now) }

@@ -18,7 +18,7 @@ use refusal::Refusal;
 use units::Unit;
 
 // What a walk along a line has found: blacks, empty cells between the first two, and the sum there.
-#[derive(Clone, Copy)]
+#[derive(Clone, Copy, Default)]
 pub struct Scan {
     pub blacks: usize,
     pub empties: usize,
@@ -53,11 +53,7 @@ fn add_cell(s: Scan, c: u8) -> Scan
 fn scan_line(line: Line) -> Scan
     ensures { Seen result (line_cells line.entry) }
 {
-    let mut s = Scan {
-        blacks: 0,
-        empties: 0,
-        sum: 0,
-    };
+    let mut s = Scan::default();
     for j in 0..line.len {
         s = add_cell(s, line.byte(j));
     }

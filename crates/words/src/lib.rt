@@ -37,6 +37,9 @@ impl Subset {
     ];
 }
 
+// How many words there are room for: nine places at which each subset starts.
+pub const ROOM: usize = 128 * 9;
+
 // Where the subsets of sum k begin; after the last sum, where they end.
 #[tactic(auto, unfolding(crate::specs::Word::from_sum, crate::specs::Word::sum_table))]
 pub fn from_sum(k: usize) -> usize

@@ -9,7 +9,7 @@ use Rattle.target_sums.proofs.scan_line.Goals as goal
 
 pub loop-j-init : goal.loop-j-init
 unfolding strided span
-loop-j-init c = (seen_none _ _ refl refl refl refl, search rules)
+loop-j-init c = let d = c.default-s.ensures in (seen_none _ _ refl d.0 d.1.0 d.1.1, search rules)
 
 pub loop-j-preserved : goal.loop-j-preserved
 loop-j-preserved c =
