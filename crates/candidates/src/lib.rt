@@ -1,4 +1,5 @@
-// Candidates: the table of candidates after the marks and one more propagation (in the Rust: domains after propagate).
+// Candidates: the table of candidates after the marks and one more propagation (in the Rust: domains after propagate). Its input comes one by one, as that of
+// crates/engine.
 #![tactic(auto)]
 
 ghost use Rattle.std.specs.Prelude.{◌≡◌, ◌*◌, length};

@@ -1,4 +1,4 @@
-// Count and Solve (in the Rust: count_solutions and solve).
+// Count and Solve (in the Rust: count_solutions and solve). What they are given comes one by one, as in crates/host: a struct of it would be made for one call.
 #![tactic(auto)]
 
 ghost use Rattle.std.specs.Prelude.{◌≡◌, ◌*◌, true, length};

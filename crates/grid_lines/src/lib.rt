@@ -38,6 +38,7 @@ pub struct Lines<'a> {
     pub ghost inside: { (i j : ℕ) → i < count → j < count → i * step + j * stride < length cells.now },
 }
 
+// The cells come beside the size: a type of both would, in marking, ask that its size is that of the puzzle.
 // Rows and columns each have numbers of their own: one function for both would take them all, or which of the two it is.
 impl<'a> Lines<'a> {
     // The rows of a grid of n * n cells.

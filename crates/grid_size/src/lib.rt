@@ -1,4 +1,4 @@
-// The size of a grid.
+// The size of a grid, and its greatest target (in the Rust: max_target).
 #![tactic(auto)]
 
 ghost use Rattle.std.specs.Prelude.{◌≡◌, is_some, IfSome};

@@ -17,10 +17,7 @@ use refusal::{Refusal, number_of};
 use units::Unit;
 
 // The numbers of the answers that are no refusals, as C knows them.
-#[derive(Clone, Copy)]
-pub struct Answer {
-    pub number: u8,
-}
+pub struct Answer;
 
 impl Answer {
     pub const WRONG: u8 = 100;

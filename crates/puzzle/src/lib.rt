@@ -1,4 +1,4 @@
-// The checks of a puzzle: its size, the unit's limit, the lengths of its target slices, its targets (in the Rust: Puzzle::try_new and max_target).
+// The checks of a puzzle: its size, the unit's limit, the lengths of its target slices, its targets (in the Rust: Puzzle::try_new).
 #![tactic(auto)]
 
 ghost use Rattle.std.specs.Prelude.{◌≡◌, leb};

@@ -1,4 +1,5 @@
-// Marking a sheet of cells against the targets of a puzzle: each of its lines has to keep the rules and its target.
+// Marking a sheet of cells against the targets of a puzzle: each of its lines has to keep the rules and its target. Its input comes one by one, as that of
+// crates/engine.
 #![tactic(auto)]
 
 ghost use Rattle.std.specs.Prelude.{◌≡◌, ◌*◌, ◌^◌, length, get_or};

@@ -11,10 +11,7 @@ ghost use Rattle.words.specs.Fill.{FillAsk, WordsFilled};
 
 use grid_size::GridSize;
 
-#[derive(Clone, Copy)]
-pub struct Subset {
-    pub code: u16,
-}
+pub struct Subset;
 
 impl Subset {
     // The subsets of the digits 1 to 7 as mask + sum * 256 + size * 8192, ordered by sum, then size, then mask.
@@ -57,6 +54,7 @@ pub fn set_of(w: u32) -> u16
 }
 
 // The place of the line's first black, and of its second. By name, as are the ends below: one function would take which of the two is meant, and ask it.
+// An arrangement has a head, as in the Rust: its strikes go from there, and their order with them.
 pub fn first_of(w: u32) -> usize
     ensures { result ≡ first_of w }
 {
