@@ -58,7 +58,7 @@ shows (Ok tt) zero e = absurd (true≢false (sym e))
 shows (Ok tt) (suc zero) e = (refl, omega arith)
 shows (Ok tt) (suc (suc m)) e = (refl, omega arith)
 
-refused_same : (k : ℕ) (v : Found) (n : ℕ) (g : List ℕ) → (k ≡ 0 → ⊥) → refused_word ++ number_text k ≡ answer_text k v n g
+pub refused_same : (k : ℕ) (v : Found) (n : ℕ) (g : List ℕ) → (k ≡ 0 → ⊥) → refused_word ++ number_text k ≡ answer_text k v n g
 unfolding answer_text
 refused_same zero v n g z = absurd (z refl)
 refused_same (suc k) v n g z = refl

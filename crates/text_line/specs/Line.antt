@@ -5,11 +5,11 @@ use Rattle.refusal.specs.declared.Refusal.{Refusal}
 use Rattle.refusal.specs.Number.{refusal_number}
 use Rattle.units.specs.Limits.{hall}
 use Rattle.rules.specs.Grid.{Puzzle}
-use Rattle.rules.specs.Check.{refusal, puzzle_checks}
+use Rattle.rules.specs.Check.{checked, refusal, puzzle_checks}
 use Rattle.rules.specs.Number.{number, verdict_of, Solution}
 use Rattle.engine.specs.declared.Verdict.{Verdict}
 use Rattle.engine.specs.declared.Verdict.TheVariants.{Unsolvable, Unique, Multiple}
-use Rattle.text_rules.specs.Fields.{size_of, puzzle_from, number_checks}
+use Rattle.text_rules.specs.Fields.{line_checks}
 use Rattle.text_rules.specs.Text.{refused_word, unsolvable_word, unique_word, multiple_word, number_text, grid_text, answer_text}
 use Rattle.text_rules.specs.Answered.{Answered}
 use Rattle.text_answer.specs.Shown.{shown}
@@ -65,13 +65,7 @@ pub record PuzzleText (p : Puzzle) (out out' : List ℕ) : Type 0 where
   pub solves : refusal (puzzle_checks hall p) ≡ 0 → 0 < number p [] → Solution p [] grid
   pub put : out' ≡ out ++ answer_text (refusal (puzzle_checks hall p)) (verdict_of (number p [])) p.size grid
 
--- At least one number, and room.
-pub record NumbersAsk (ns : List ℕ) (room : ℕ) : Type 0 where
-  pub some : 0 < length ns
-  pub fits : 99 ≤ room
-
--- A text that answers the numbers of a line is appended.
-pub record NumbersText (ns out out' : List ℕ) : Type 0 where
-  pub grid : List ℕ
-  pub solves : refusal (number_checks ns) ≡ 0 → 0 < number (puzzle_from ns) [] → Solution (puzzle_from ns) [] grid
-  pub put : out' ≡ out ++ answer_text (refusal (number_checks ns)) (verdict_of (number (puzzle_from ns) [])) (size_of ns) grid
+-- A text that answers the line is appended, or the line is refused and nothing is appended.
+abbrev pub LineChecked : {T : Type 0} → (line out out' : List ℕ) → Result T Refusal → Type 0
+LineChecked line out out' (Ok _) = LineText line out out'
+LineChecked line out out' (Err k) = (checked (line_checks line) ≡ Err k) × (out' ≡ out)

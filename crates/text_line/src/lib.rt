@@ -1,10 +1,12 @@
 // The answer to one line of `sheet`.
 #![tactic(auto)]
 
-ghost use Rattle.std.specs.Prelude.{◌≡◌, ◌-◌, ◌++◌, length, take, drop};
+ghost use Rattle.std.specs.Prelude.{◌≡◌, ◌-◌, ◌≤◌, ◌<◌, ◌++◌, length, take, drop};
 ghost use Rattle.arrayvec.specs.ArrayVec.{array_vec_len};
 ghost use Rattle.rules.specs.Grid.{puzzle};
-ghost use Rattle.text_line.specs.Line.{LineGiven, solved_text, AnswerAsk, SolveTargetsAsk, TargetsAsk, NumbersAsk, PuzzleText, NumbersText};
+ghost use Rattle.puzzle.specs.Accepted.{Passed};
+ghost use Rattle.text_rules.specs.Fields.{size_of, number_checks};
+ghost use Rattle.text_line.specs.Line.{LineGiven, solved_text, AnswerAsk, SolveTargetsAsk, TargetsAsk, PuzzleText, LineChecked};
 
 use arrayvec::{ArrayVec, CapacityError};
 use engine::{Verdict, solve};
@@ -66,19 +68,33 @@ fn answer_targets<const N: usize>(size: GridSize, targets: &[u8], out: &mut Arra
     solve_targets(size, targets, &mut cells[..area], out);
 }
 
-// The answer to the numbers of a line.
-fn answer_numbers<const N: usize>(numbers: &[u8], out: &mut ArrayVec<u8, N>)
-    requires { NumbersAsk numbers.now (N - array_vec_len out.old) }
-    ensures { NumbersText numbers.now out.old.items out.new.items }
+// The size that the numbers of a line begin with, where it is one and they have twice as many targets.
+fn check_numbers(numbers: &[u8]) -> Result<GridSize, Refusal>
+    requires { 0 < length numbers.now }
+    ensures { Passed (take 2 (number_checks numbers.now)) (λ size. size.n ≡ size_of numbers.now) result }
 {
     let n = usize::from(numbers[0]);
     let Some(size) = GridSize::try_new(n) else {
-        return write_refused(Refusal::Size.number(), out);
+        return Err(Refusal::Size);
     };
     if numbers.len() != 2 * n + 1 {
-        return write_refused(Refusal::TargetLengths.number(), out);
+        return Err(Refusal::TargetLengths);
     }
+    Ok(size)
+}
+
+// The answer to the puzzle of a line; a line that has none is refused, and nothing is written.
+fn answer_puzzle<const N: usize>(line: &[u8], out: &mut ArrayVec<u8, N>) -> Result<(), Refusal>
+    requires { 99 ≤ N - array_vec_len out.old }
+    ensures { LineChecked line.now out.old.items out.new.items result }
+{
+    let mut room = ArrayVec::new();
+    let Some(numbers) = read_numbers(line, &mut room) else {
+        return Err(Refusal::TextLine);
+    };
+    let size = check_numbers(numbers)?;
     answer_targets(size, &numbers[1..], out);
+    Ok(())
 }
 
 // Appends the text that answers a line. A buffer with room for less than 100 bytes is left alone.
@@ -91,10 +107,8 @@ pub fn answer_line<const N: usize>(
     if out.remaining_capacity() < 100 {
         return Err(CapacityError::new(()));
     }
-    let mut room = ArrayVec::new();
-    match read_numbers(line, &mut room) {
-        Some(numbers) => answer_numbers(numbers, out),
-        None => write_refused(Refusal::TextLine.number(), out),
+    if let Err(refusal) = answer_puzzle(line, out) {
+        write_refused(refusal.number(), out);
     }
     Ok(())
 }
