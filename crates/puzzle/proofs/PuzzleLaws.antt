@@ -1,6 +1,7 @@
 -- The checks of a puzzle, one after the other, and what a puzzle that passes them all is. Assumes nothing.
 use Prim.Native.Nat.{ℕ}
-use mathlib.Core.Path.{◌≡◌, refl}
+use mathlib.Core.Path.{◌≡◌, refl, sym}
+use mathlib.Core.List.{List, [], ◌∷◌}
 use mathlib.Core.Bool.{Bool, true, false}
 use lib.Dec.{eqb, leb}
 use lib.ListN.{length}
@@ -8,27 +9,52 @@ use borrow.Author.Tests.{eqb-true}
 use Rattle.tally.specs.Tally.{all}
 use Rattle.tally.proofs.TallyLaws.{and_left, and_right}
 use Rattle.std.specs.Prelude.{Ok, Err}
+use Rattle.refusal.specs.declared.Refusal.{Refusal}
 use Rattle.refusal.specs.declared.Refusal.TheVariants.{Size as SizeFault, TargetLengths, Target, SizeLimit}
 use Rattle.units.specs.declared.Unit.{Unit}
 use Rattle.units.specs.Limits.{takes_size}
 use Rattle.rules.specs.Grid.{Puzzle}
-use Rattle.rules.specs.Check.{checked, refusal, max_target, puzzle_checks}
+use Rattle.rules.specs.Check.{Check, check_size, check_unit_size, checked, refusal, max_target, puzzle_checks}
 use Rattle.rules.specs.CheckParts.{size_fits, targets_fit}
-use Rattle.rules.proofs.CheckLaws.{lacks, numbered, refusal_none}
+use Rattle.rules.proofs.CheckLaws.{lacks, numbered, checked_stop, passed_number, refusal_none}
 use Rattle.rules.proofs.SizeLaws.{size_in}
 use Rattle.puzzle.specs.Accepted.{AcceptedPuzzle}
+
+-- ---- the size
+
+module _ (u : Unit) (n : ℕ) where
+  abbrev pub size_checks : List Check
+  size_checks = check_size n ∷ check_unit_size u n ∷ []
+
+  pub size_1 : size_fits n ≡ false → Err SizeFault ≡ checked size_checks
+  unfolding checked
+  size_1 h = rw h
+
+  pub size_18 : size_fits n ≡ true → takes_size u n ≡ false → Err SizeLimit ≡ checked size_checks
+  unfolding checked
+  size_18 h s = rw (h, s)
+
+  pub size_0 : size_fits n ≡ true → takes_size u n ≡ true → Ok tt ≡ checked size_checks
+  unfolding checked
+  size_0 h s = rw (h, s)
+
+  -- where it is refused, so is all that begins with it
+  pub size_refused : (cs : List Check) (k : Refusal) → Err k ≡ checked size_checks → Err k ≡ checked (check_size n ∷ check_unit_size u n ∷ cs)
+  size_refused cs k e = sym (checked_stop size_checks cs k (sym e))
+
+  pub size_passed : Ok tt ≡ checked size_checks → (size_fits n ≡ true) × (takes_size u n ≡ true)
+  size_passed e =
+      let a = refusal_none SizeFault (size_fits n) _ (passed_number size_checks (sym e)) in
+      (a.0, (refusal_none SizeLimit (takes_size u n) _ a.1).0)
+
+-- ---- the puzzle
 
 module _ (u : Unit) (p : Puzzle) where
   abbrev fitting : Bool
   fitting = targets_fit p.size (length p.rows) (length p.columns)
 
-  pub puzzle_1 : size_fits p.size ≡ false → Err SizeFault ≡ checked (puzzle_checks u p)
-  unfolding checked
-  puzzle_1 h = rw h
-
-  pub puzzle_18 : size_fits p.size ≡ true → takes_size u p.size ≡ false → Err SizeLimit ≡ checked (puzzle_checks u p)
-  unfolding checked
-  puzzle_18 h s = rw (h, s)
+  pub puzzle_size : (k : Refusal) → Err k ≡ checked (size_checks u p.size) → Err k ≡ checked (puzzle_checks u p)
+  puzzle_size = size_refused u p.size _
 
   pub puzzle_2 : size_fits p.size ≡ true → takes_size u p.size ≡ true → fitting ≡ false → Err TargetLengths ≡ checked (puzzle_checks u p)
   unfolding checked

@@ -1,9 +1,9 @@
 // The checks of a puzzle: its size, the unit's limit, the lengths of its target slices, its targets (in the Rust: Puzzle::try_new).
 #![tactic(auto)]
 
-ghost use Rattle.std.specs.Prelude.{◌≡◌, leb};
+ghost use Rattle.std.specs.Prelude.{◌≡◌, [], ◌∷◌, leb};
 ghost use Rattle.tally.specs.Tally.{all};
-ghost use Rattle.rules.specs.Check.{puzzle_checks};
+ghost use Rattle.rules.specs.Check.{check_size, check_unit_size, puzzle_checks};
 ghost use Rattle.rules.specs.CheckParts.{targets_fit};
 ghost use Rattle.rules.specs.Grid.{puzzle};
 ghost use Rattle.puzzle.specs.Accepted.{AcceptedPuzzle, Passed};
@@ -32,12 +32,7 @@ impl<'a> Puzzle<'a> {
         ensures { Passed (puzzle_checks unit (puzzle n rows.now columns.now))
             (λ p. puzzle p.size.n p.rows.now p.columns.now ≡ puzzle n rows.now columns.now) result }
     {
-        let Some(size) = GridSize::try_new(n) else {
-            return Err(Refusal::Size);
-        };
-        if !unit.takes_size(n) {
-            return Err(Refusal::SizeLimit);
-        }
+        let size = check_size(unit, n)?;
         if !targets_fit(n, rows.len(), columns.len()) {
             return Err(Refusal::TargetLengths);
         }
@@ -54,6 +49,19 @@ impl<'a> Puzzle<'a> {
             columns,
         })
     }
+}
+
+// The size n, if it is one and the unit takes it.
+pub fn check_size(unit: Unit, n: usize) -> Result<GridSize, Refusal>
+    ensures { Passed (check_size n ∷ check_unit_size unit n ∷ []) (λ size. size.n ≡ n) result }
+{
+    let Some(size) = GridSize::try_new(n) else {
+        return Err(Refusal::Size);
+    };
+    if !unit.takes_size(n) {
+        return Err(Refusal::SizeLimit);
+    }
+    Ok(size)
 }
 
 pub fn targets_fit(n: usize, rows: usize, columns: usize) -> bool

@@ -23,6 +23,7 @@ use Rattle.rules.proofs.StridedLaws.{checks_each, rows_each, columns_each}
 use Rattle.rules.specs.Strided.{strided, each}
 use Rattle.rules.specs.Sums.{summed_as, target_sums}
 use Rattle.grid_lines.specs.declared.Lines.{Lines}
+use Rattle.puzzle.proofs.PuzzleLaws.{size_checks, size_refused}
 use Rattle.target_sums.specs.Answer.{SumsAnswered}
 use Rattle.target_sums.specs.Scanning.{SumsAsk}
 use Rattle.target_sums.proofs.LineLaws.{line_numbered, refusal_fits}
@@ -30,13 +31,9 @@ use Rattle.target_sums.proofs.LineLaws.{line_numbered, refusal_fits}
 -- ---- the checks, one after the other
 
 module _ (u : Unit) (n : ℕ) (g : List ℕ) (r c : ℕ) where
-  pub sums_1 : size_fits n ≡ false → Err SizeFault ≡ checked (sums_checks u n g r c)
-  unfolding sums_checks checked
-  sums_1 h = rw h
-
-  pub sums_18 : size_fits n ≡ true → takes_size u n ≡ false → Err SizeLimit ≡ checked (sums_checks u n g r c)
-  unfolding sums_checks checked
-  sums_18 h s = rw (h, s)
+  pub sums_size : (k : Refusal) → Err k ≡ checked (size_checks u n) → Err k ≡ checked (sums_checks u n g r c)
+  unfolding sums_checks
+  sums_size = size_refused u n _
 
   pub sums_7 : size_fits n ≡ true → takes_size u n ≡ true → (length g ≡ n * n → ⊥) → Err CellsLength ≡ checked (sums_checks u n g r c)
   unfolding sums_checks checked

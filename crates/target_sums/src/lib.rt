@@ -13,7 +13,7 @@ ghost use Rattle.target_sums.specs.Scanning.{Seen, Small, OneMore, BehindBlack, 
 
 use grid_lines::{Line, Lines};
 use grid_size::GridSize;
-use puzzle::targets_fit;
+use puzzle::{check_size, targets_fit};
 use refusal::Refusal;
 use units::Unit;
 
@@ -143,12 +143,7 @@ fn check_sums(
 ) -> Result<GridSize, Refusal>
     ensures { Passed (sums_checks unit n cells.now rows columns) (λ size. size.n ≡ n) result }
 {
-    let Some(size) = GridSize::try_new(n) else {
-        return Err(Refusal::Size);
-    };
-    if !unit.takes_size(n) {
-        return Err(Refusal::SizeLimit);
-    }
+    let size = check_size(unit, n)?;
     if cells.len() != n * n {
         return Err(Refusal::CellsLength);
     }
