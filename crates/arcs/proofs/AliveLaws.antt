@@ -18,7 +18,7 @@ use Rattle.words.specs.Word.{Known, word_of, part}
 use Rattle.arcs.specs.Arc.{lives, live, support, Tallied, Served, Alive, DeadArrangement, Held, Holding}
 use Rattle.table.specs.Value.{HalfOf}
 use Rattle.table.specs.Lines.{cell_at, black_at}
-use Rattle.arcs.proofs.SunkLaws.{cell_row, cell_column}
+use Rattle.lane.proofs.LaneLaws.{cell_row, cell_column}
 use Rattle.arcs.specs.Sweep.{UnsupportedIn, LineMoved, Removed, Outlives, untouched, served, AllAlive, Same}
 
 -- a line has a cell at one place only

@@ -6,7 +6,6 @@ use mathlib.Core.List.{List}
 use native.Mathlib.Omega.{arith}
 use native.Mathlib.Decide.{ℕ_discrete, dec_lt}
 use lib.ListN.{length}
-use borrow.Author.Tests.{lt-ltb, le-ltb}
 use Rattle.queue_state.specs.Layout.{slab_size}
 use Rattle.queue_state.specs.Slab.{cand, tail}
 use Rattle.queue_state.proofs.StruckLaws.{grown_gone}
@@ -14,30 +13,15 @@ use Rattle.queue_state.proofs.ReadyLaws.{ready_grown, next_grown}
 use Rattle.queue_state.specs.Ready.{Next}
 use Rattle.table.specs.Value.{ValueOf}
 use Rattle.lane.specs.declared.Lane.{Lane}
-use Rattle.lane.specs.Lanes.{row_lane, column_lane}
+use Rattle.lane.specs.Rows.{RowLane, ColumnLane}
 use Rattle.arcs.specs.Arc.{lives, Tallied, Arc, ArcAsk, ArcDone}
-use Rattle.table.specs.Lines.{cell_at, black_at, LineOf}
-use Rattle.arcs.proofs.SunkLaws.{cell_row, cell_column}
+use Rattle.table.specs.Lines.{cell_at, LineOf}
+use Rattle.lane.proofs.LaneLaws.{cell_row, cell_column}
 use Rattle.arcs.proofs.LineLaws.{line_in}
-use Rattle.arcs.specs.Kill.{Placed}
 use Rattle.arcs.specs.Sweep.{AllAlive, LineAsk, LineDone}
 use Rattle.arcs.proofs.PrunedLaws.{line_tallied, line_alive, line_pruned, pruned_trans, Clear, clear_alive}
 
 -- ---- the two lines of a cell
-
-black_row : (ℓ : ℕ) → ℓ < 9 → black_at ℓ ≡ 8
-unfolding black_at
-black_row ℓ h = rw (lt-ltb ℓ 9 h)
-
-black_column : (ℓ : ℕ) → 9 ≤ ℓ → black_at ℓ ≡ 10
-unfolding black_at
-black_column ℓ h = rw (le-ltb ℓ 9 h)
-
-row_placed : (n r : ℕ) → r < 9 → Placed r (row_lane n r)
-row_placed n r h = record { within = omega arith; cells = λ p k. sym (cell_row r p h ∙ omega arith) }
-
-column_placed : (n c : ℕ) → c < 9 → Placed (9 + c) (column_lane n c)
-column_placed n c h = record { within = omega arith; cells = λ p k. sym (cell_column (9 + c) p (omega arith) ∙ omega arith) }
 
 module _ {n : ℕ} {ws l : List ℕ} {r c v : ℕ} (a : ArcAsk n ws l r c v) where
   narrow : v < 12
@@ -67,32 +51,28 @@ module _ {n : ℕ} {ws l : List ℕ} {r c v : ℕ} (a : ArcAsk n ws l r c v) whe
   column_cell : cell_at (9 + c) r ≡ r * 9 + c
   column_cell = cell_column (9 + c) r (omega arith) ∙ omega arith
 
-  pub row_ask : {lane : Lane} → lane ≡ row_lane n r → LineAsk lane.len lane.number lane c v ws l
+  pub row_ask : {lane : Lane} → RowLane n r lane → LineAsk lane c v ws l
   row_ask e =
-      rw e (record {
-        ready = a.ready;
-        words = a.words;
-        of = row_of;
-        placed = row_placed n r r_low;
-        black = sym (black_row r r_low);
-        place = a.column;
-        narrow = omega (arith, narrow);
-        gone = ap (λ x. cand l x v) row_cell ∙ a.gone;
-        tallied = a.tallied r row_of;
-      })
-
-  column_ask : LineAsk n (9 + c) (column_lane n c) r v ws l
-  column_ask =
       record {
-        ready = a.ready;
-        words = a.words;
-        of = column_of;
-        placed = column_placed n c c_low;
-        black = sym (black_column (9 + c) (omega arith));
-        place = a.row;
+        ready = rw e.4 a.ready;
+        words = rw e.4 a.words;
+        of = rw (e.0, e.4) row_of;
+        place = rw e.4 a.column;
         narrow = omega (arith, narrow);
-        gone = ap (λ x. cand l x v) column_cell ∙ a.gone;
-        tallied = a.tallied (9 + c) column_of;
+        gone = rw e.0 (ap (λ x. cand l x v) row_cell ∙ a.gone);
+        tallied = rw (e.0, e.4) (a.tallied r row_of);
+      }
+
+  column_ask : {lane : Lane} → ColumnLane n c lane → LineAsk lane r v ws l
+  column_ask e =
+      record {
+        ready = rw e.4 a.ready;
+        words = rw e.4 a.words;
+        of = rw (e.0, e.4) column_of;
+        place = rw e.4 a.row;
+        narrow = omega (arith, narrow);
+        gone = rw e.0 (ap (λ x. cand l x v) column_cell ∙ a.gone);
+        tallied = rw (e.0, e.4) (a.tallied (9 + c) column_of);
       }
 
   -- a line that is handled leaves the other one as it has to be
@@ -164,13 +144,13 @@ module _ {n : ℕ} {ws l : List ℕ} {r c v : ℕ} (a : ArcAsk n ws l r c v) whe
 
 -- ---- as the code does it: the row, then the column
 
-module _ {n : ℕ} {ws l l₁ : List ℕ} {r c v : ℕ} {row column : Lane} (a : ArcAsk n ws l r c v)
-    (e : row ≡ row_lane n r) (d : LineDone row.len row.number c v l l₁) (f : column ≡ column_lane n c) where
+module _ {n : ℕ} {ws l l₁ : List ℕ} {r c v : ℕ} (row column : Lane) (a : ArcAsk n ws l r c v)
+    (e : RowLane n r row) (d : LineDone row.len row.number c v l l₁) (f : ColumnLane n c column) where
   row_done : LineDone n r c v l l₁
-  row_done = rw e at d
+  row_done = rw (e.0, e.4) at d
 
-  pub arc_column : LineAsk column.len column.number column r v ws l₁
-  arc_column = rw f (column_ask (arc_next a row_done))
+  pub arc_column : LineAsk column r v ws l₁
+  arc_column = column_ask (arc_next a row_done) f
 
   pub arc_done : {l₂ : List ℕ} → LineDone column.len column.number r v l₁ l₂ → ArcDone n l l₂ r c v
-  arc_done g = both_done a row_done (rw f at g)
+  arc_done g = both_done a row_done (rw (f.0, f.4) at g)

@@ -22,8 +22,7 @@ use Rattle.words.proofs.WordLaws.{known_subset, known_fits, known_fields, known_
 use Rattle.words.proofs.Arranged.{digits_mem, known_length, place_in, steps_place, pattern_allows, covered_place}
 use Rattle.arcs.specs.Arc.{DeadArrangement, emptied, unplaced}
 use Rattle.table.specs.Lines.{cell_at, black_at}
-use Rattle.arcs.proofs.SunkLaws.{cell_in}
-use Rattle.arcs.specs.Kill.{Placed}
+use Rattle.lane.proofs.LaneLaws.{cell_in}
 use Rattle.arcs.proofs.KillLaws.{black_low, set_high}
 use Rattle.arcs.proofs.LineLaws.{line_absent}
 use Rattle.arcs.specs.Sweep.{Outlives, untouched, served}
@@ -32,15 +31,16 @@ use Rattle.arcs.specs.Have.{test_of, Have, Tested}
 
 -- ---- the places that have a digit
 
-module _ {line : ℕ} {lane : Lane} (a : Placed line lane) where
-  pub placed_cand : (l : List ℕ) (q v : ℕ) → q < 9 → bit v (get_or l (lane.start + q * lane.stride) 0) ≡ cand l (cell_at line q) v
-  placed_cand l q v h = ap (λ x. bit v (get_or l x 0)) (a.cells q h) ∙ sym (cand_in l (cell_at line q) v (cell_in line q a.within h))
+module _ (lane : Lane) where
+  pub lane_cand : (l : List ℕ) (q v : ℕ) → q < 9 → bit v (get_or l (lane.start + q * lane.stride) 0) ≡ cand l (cell_at lane.number q) v
+  lane_cand l q v h =
+      ap (λ x. bit v (get_or l x 0)) (lane.cells q h) ∙ sym (cand_in l (cell_at lane.number q) v (cell_in lane.number q lane.within h))
 
   -- the table only shrinks
   pub have_kept : (v n have : ℕ) {l l' : List ℕ} → v < 16 → n ≤ 9 → Grown l l' → Have lane v l n have → Have lane v l' n have
   unfolding Have
   have_kept v n have {l} {l'} h k g f q b =
-      omega (arith, f q b, g.sub (cell_at line q) v h, placed_cand l q v (omega arith), placed_cand l' q v (omega arith))
+      omega (arith, f q b, g.sub (cell_at lane.number q) v h, lane_cand l q v (omega arith), lane_cand l' q v (omega arith))
 
 -- ---- a known arrangement
 
@@ -99,9 +99,9 @@ module _ (n ℓ p v id : ℕ) (l : List ℕ) (z : Size n) (y : Known n id) (hp :
             low (yes a) = a
             low (no a) = absurd (omega (arith, set_high x m.0 (omega arith), m.3))
 
-    pub tested_dead : {lane : Lane} → Placed ℓ lane → Have lane v l n have → r ≡ false → DeadArrangement n ℓ l id
+    pub tested_dead : (lane : Lane) → ℓ ≡ lane.number → Have lane v l n have → r ≡ false → DeadArrangement n ℓ l id
     unfolding Have arrangement_of
-    tested_dead {lane} a f o = ⊎_elim (λ q. nowhere q) (λ q. empty q) (t.drops o).1
+    tested_dead lane a f o = ⊎_elim (λ q. nowhere q) (λ q. empty q) (t.drops o).1
       where
         has : (bit v (set_of x) ≡ 1) × (bit p (inner_of x) ≡ 1)
         has = test_taken x v p h narrow (t.drops o).0
@@ -144,4 +144,4 @@ module _ (n ℓ p v id : ℕ) (l : List ℕ) (z : Size n) (y : Known n id) (hp :
                 let s = place n (arrangement_of n id) j in
                 let i : s < n = place_in n id z y j (omega (arith, known_fits n id z y)) in
                 let k : bit s (covered_of x) ≡ 1 = ap (λ x. bit s (covered_of x)) e ∙ covered_place n id z y j b in
-                omega (arith, apart (covered_of x) have q s k, f s i, placed_cand a l s v (omega (arith, z.high)))
+                omega (arith, apart (covered_of x) have q s k, f s i, lane_cand lane l s v (omega (arith, z.high)), ap (λ m. cand l (cell_at m s) v) a)

@@ -1,5 +1,5 @@
 -- Supports of a set of digits that fall at one place, digit by digit. Assumes nothing.
-use Prim.Native.Nat.{ℕ, ◌+◌, ◌-◌, min, ◌≤◌, ◌<◌}
+use Prim.Native.Nat.{ℕ, ◌+◌, ◌-◌, ◌*◌, min, ◌≤◌, ◌<◌}
 use mathlib.Core.Path.{◌≡◌}
 use mathlib.Core.List.{List}
 use native.Mathlib.Omega.{arith}
@@ -10,17 +10,21 @@ use Rattle.value.specs.Mask.{LowestOf}
 use Rattle.value.proofs.LowestLaws.{rest_without, rest_keeps}
 use Rattle.bits.specs.Sum.{same}
 use Rattle.bits.proofs.SumLaws.{same_yes, same_no}
+use Rattle.lane.specs.declared.Lane.{Lane}
 use Rattle.arcs.specs.Sunk.{Sunk, single, masked, DigitsAsk}
 use Rattle.arcs.proofs.SunkLaws.{sunk_as, sunk_both}
 
 -- the digits that are not in rest have fallen
-pub record Dropping (l₀ l : List ℕ) (place cell mask rest : ℕ) : Type 0 where
-  pub ask : DigitsAsk l₀ place cell mask
+pub record Dropping (lane : Lane) (p mask rest : ℕ) (l₀ l : List ℕ) : Type 0 where
+  pub ask : DigitsAsk lane p mask l₀
   pub within : (v : ℕ) → v < 16 → bit v rest ≤ bit v mask
-  pub sunk : Sunk (λ y v. min (same y place) (bit v mask - bit v rest)) l₀ l
+  pub sunk : Sunk (λ y v. min (same y (lane.number * 9 + p)) (bit v mask - bit v rest)) l₀ l
 
-module _ {l₀ l : List ℕ} {place cell mask rest v rest' : ℕ} (c : Dropping l₀ l place cell mask rest) (b : LowestOf rest v rest') where
-  pub dropping_next : {l' : List ℕ} → Sunk (single place v) l l' → Dropping l₀ l' place cell mask rest'
+module _ {lane : Lane} {p mask rest v rest' : ℕ} {l₀ l : List ℕ} (c : Dropping lane p mask rest l₀ l) (b : LowestOf rest v rest') where
+  abbrev place : ℕ
+  place = lane.number * 9 + p
+
+  pub dropping_next : {l' : List ℕ} → Sunk (single place v) l l' → Dropping lane p mask rest' l₀ l'
   dropping_next {l'} s =
       record {
         ask = c.ask;
@@ -40,6 +44,6 @@ module _ {l₀ l : List ℕ} {place cell mask rest v rest' : ℕ} (c : Dropping 
           omega (arith, same_yes w v e, c.within w n, bit_lt w mask)
       both y w n (no e) = omega (arith, rest_keeps b w e, same_no w v e)
 
-pub dropping_end : {l₀ l : List ℕ} {place cell mask rest : ℕ} → Dropping l₀ l place cell mask rest → rest ≡ 0 → Sunk (masked place mask) l₀ l
-dropping_end {place = place} {mask = mask} {rest = rest} c z =
+pub dropping_end : {lane : Lane} {p mask rest : ℕ} {l₀ l : List ℕ} → Dropping lane p mask rest l₀ l → rest ≡ 0 → Sunk (masked (lane.number * 9 + p) mask) l₀ l
+dropping_end {mask = mask} {rest = rest} c z =
     sunk_as c.sunk (λ y v p q. let e : bit v rest ≡ 0 = rw z (bit_none v) in omega arith)

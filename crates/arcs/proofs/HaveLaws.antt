@@ -28,17 +28,17 @@ one_bit b p h k =
         let f : b * 2 ^ p ≡ 2 ^ p = let o : b ≡ 1 = omega arith in rw o (omega arith) in
         rw f (omega (arith, bit_pow_same p))
 
-pub having_next : {n : ℕ} {lane : Lane} {v : ℕ} {l : List ℕ} {p x : ℕ} (have : ℕ) → HaveAsk n lane v l → Have lane v l p have → p < 9 →
+pub having_next : {lane : Lane} {v : ℕ} {l : List ℕ} {p x : ℕ} (have : ℕ) → HaveAsk lane v l → Have lane v l p have → p < 9 →
     x ≡ bit v (get_or l (lane.start + p * lane.stride) 0) → Have lane v l (p + 1) (bit_or have (x * 2 ^ p % 4294967296))
 unfolding Have
-having_next {n} {lane} {v} {l} {p} {x} have a s h z = λ q k. go q k (ℕ_discrete q p)
+having_next {lane} {v} {l} {p} {x} have a s h z = λ q k. go q k (ℕ_discrete q p)
   where
     y : ℕ
     y = x * 2 ^ p % 4294967296
 
     go : (q : ℕ) → q < p + 1 → Dec (q ≡ p) → bit v (get_or l (lane.start + q * lane.stride) 0) ≤ bit q (bit_or have y)
     go q k (yes e) =
-        let b = one_bit x p (omega (arith, bit_lt v (get_or l (lane.start + p * lane.stride) 0))) (omega (arith, a.high)) in
+        let b = one_bit x p (omega (arith, bit_lt v (get_or l (lane.start + p * lane.stride) 0))) (omega arith) in
         let c : bit v (get_or l (lane.start + q * lane.stride) 0) ≡ bit v (get_or l (lane.start + p * lane.stride) 0) =
         ap (λ q. bit v (get_or l (lane.start + q * lane.stride) 0)) e in
         let d : bit q y ≡ bit p y = ap (λ q. bit q y) e in
@@ -46,6 +46,6 @@ having_next {n} {lane} {v} {l} {p} {x} have a s h z = λ q k. go q k (ℕ_discre
     go q k (no e) = omega (arith, s q (omega arith), bit_or_lem q have y)
 
 -- those of nine places are those of a line's
-pub having_end : {n : ℕ} {lane : Lane} {v : ℕ} {l : List ℕ} (have : ℕ) → HaveAsk n lane v l → Have lane v l 9 have → Have lane v l n have
+pub having_end : {lane : Lane} {v : ℕ} {l : List ℕ} (have : ℕ) → HaveAsk lane v l → Have lane v l 9 have → Have lane v l lane.len have
 unfolding Have
 having_end have a s = λ q k. s q (omega (arith, a.high))

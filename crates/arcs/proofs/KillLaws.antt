@@ -1,6 +1,6 @@
 -- The supports of a word fall: its first end, its inner places, its last end. Assumes nothing.
 use Prim.Native.Nat.{ℕ, ◌+◌, ◌*◌, ◌/◌, ◌%◌, ◌^◌, min, ◌≤◌, ◌<◌}
-use mathlib.Core.Path.{◌≡◌, sym, ap, ◌∙◌}
+use mathlib.Core.Path.{◌≡◌, ap, ◌∙◌}
 use mathlib.Core.Logic.{inl, inr}
 use mathlib.Core.Bool.{cond}
 use mathlib.Core.List.{List}
@@ -20,7 +20,7 @@ use Rattle.words.proofs.PatternLaws.{part_lt, part_none, part_digit, pattern_hea
 use Rattle.arcs.specs.Arc.{support}
 use Rattle.table.specs.Lines.{black_at}
 use Rattle.arcs.specs.Sunk.{Sunk, single, DropAsk}
-use Rattle.arcs.proofs.SunkLaws.{slot_cell, sunk_as, sunk_both}
+use Rattle.arcs.proofs.SunkLaws.{sunk_as, sunk_both}
 use Rattle.arcs.specs.Kill.{parts, inners, InnerAsk, KillAsk}
 
 pub black_low : (ℓ : ℕ) → 8 ≤ black_at ℓ
@@ -50,7 +50,13 @@ last_narrow : (k w : ℕ) → k ≤ 10 → last_of k w < 16
 unfolding last_of
 last_narrow k w h = elim (ℕ_discrete (w / 33554432) 0) [ yes e ↦ rw (eq-eqb _ _ e) (omega arith) | no e ↦ rw (ne_eqb _ _ e) (omega arith) ]
 
-module _ {n line w : ℕ} {lane : Lane} {l : List ℕ} (a : KillAsk n line lane w l) where
+module _ {w : ℕ} {lane : Lane} {l : List ℕ} (a : KillAsk lane w l) where
+  abbrev n : ℕ
+  n = lane.len
+
+  abbrev line : ℕ
+  line = lane.number
+
   high : n ≤ 9
   high = a.size.high
 
@@ -62,7 +68,7 @@ module _ {n line w : ℕ} {lane : Lane} {l : List ℕ} (a : KillAsk n line lane 
 
   -- the code's sums fit
   pub kill_black : lane.first < 16
-  kill_black = omega (arith, a.black, black_high line)
+  kill_black = omega (arith, lane.black, black_high line)
 
   from_to : from_of w ≡ to_of w → ⊥
   from_to e = omega (arith, a.shaped.apart, steps_none n (from_of w), ap (steps n (from_of w)) e)
@@ -105,27 +111,25 @@ module _ {n line w : ℕ} {lane : Lane} {l : List ℕ} (a : KillAsk n line lane 
       go (yes h) = omega (arith, part_digit (black_at line) w q v h)
       go (no h) = omega (arith, set_high w v (omega arith), far (dec_lt q n) (dec_lt (steps n (from_of w) (to_of w)) (steps n (from_of w) q)) (omega arith))
 
-  pub kill_first : (f x m : ℕ) → f ≡ from_of w → x ≡ lane.start + f * lane.stride → m ≡ head_of lane.first w → DropAsk l (line * 9 + f) x m
-  kill_first f x m e g h =
+  pub kill_first : (f m : ℕ) → f ≡ from_of w → m ≡ head_of lane.first w → DropAsk lane f m l
+  kill_first f m e h =
       let i : f < 9 = omega (arith, from_narrow) in
-      let j : m ≡ head_of (black_at line) w = h ∙ ap (λ k. head_of k w) a.black in
+      let j : m ≡ head_of (black_at line) w = h ∙ ap (λ k. head_of k w) lane.black in
       let b : m < 16 = omega (arith, head_narrow (black_at line) w (black_high line)) in
       let p : part (black_at line) w f m ≡ 1 = ap (λ q. part (black_at line) w q m) e ∙ part_from m ∙ same_yes _ _ j in
       record {
         sized = a.sized;
-        within = omega (arith, a.placed.within);
-        there = g ∙ a.placed.cells f i ∙ sym (slot_cell line f i);
+        place = i;
         value = b;
         positive = omega (arith, a.enough f m i b);
       }
 
   module _ {l₁ : List ℕ} (f m : ℕ) (e : f ≡ from_of w) (s : Sunk (single (line * 9 + f) m) l l₁) where
-    pub kill_inner : InnerAsk n line lane w l₁
+    pub kill_inner : InnerAsk lane w l₁
     kill_inner =
         record {
           sized = grown_sized s.grown a.sized;
           size = a.size;
-          placed = a.placed;
           shaped = a.shaped;
           enough = λ q v i j. enough q v i j
               (ℕ_discrete q (from_of w)) (dec_lt v 8);
@@ -139,25 +143,24 @@ module _ {n line w : ℕ} {lane : Lane} {l : List ℕ} (a : KillAsk n line lane 
               arith,
               a.enough q v i j,
               part_digit (black_at line) w q v h,
-              s.falls (line * 9 + q) v (omega (arith, a.placed.within)) j,
+              s.falls (line * 9 + q) v (omega (arith, lane.within)) j,
               same_no
                   (line * 9 + q) (line * 9 + f) (λ z. d (omega arith)),
             )
 
     module _ {l₂ : List ℕ} (g : Sunk (inners line w) l₁ l₂) where
-      pub kill_last : (t x y : ℕ) → t ≡ to_of w → x ≡ lane.start + t * lane.stride → y ≡ last_of lane.first w → DropAsk l₂ (line * 9 + t) x y
-      kill_last t x y d h r =
+      pub kill_last : (t y : ℕ) → t ≡ to_of w → y ≡ last_of lane.first w → DropAsk lane t y l₂
+      kill_last t y d r =
           let i : t < 9 = omega (arith, to_narrow) in
-          let j : y ≡ last_of (black_at line) w = r ∙ ap (λ k. last_of k w) a.black in
+          let j : y ≡ last_of (black_at line) w = r ∙ ap (λ k. last_of k w) lane.black in
           let b : y < 16 = omega (arith, last_narrow (black_at line) w (black_high line)) in
           let p : part (black_at line) w t y ≡ 1 = ap (λ q. part (black_at line) w q y) d ∙ part_to y ∙ same_yes _ _ j in
           let c : (line * 9 + t) % 9 ≡ t = omega arith in
           let o : bit ((line * 9 + t) % 9) (inner_of w) ≡ 0 = rw (c, d) to_outer in
-          let u : line * 9 + t < 162 = omega (arith, a.placed.within) in
+          let u : line * 9 + t < 162 = omega (arith, lane.within) in
           record {
             sized = grown_sized (grown_trans s.grown g.grown) a.sized;
-            within = u;
-            there = h ∙ a.placed.cells t i ∙ sym (slot_cell line t i);
+            place = i;
             value = b;
             positive = omega (
               arith,
@@ -175,10 +178,10 @@ module _ {n line w : ℕ} {lane : Lane} {l : List ℕ} (a : KillAsk n line lane 
           sunk_as (sunk_both (sunk_both s g) z) (λ x v i j. all x v i (ℕ_discrete (x / 9) line) (ℕ_discrete (x % 9) (from_of w)) (ℕ_discrete (x % 9) (to_of w)))
         where
           head_is : m ≡ head_of (black_at line) w
-          head_is = h ∙ ap (λ k. head_of k w) a.black
+          head_is = h ∙ ap (λ k. head_of k w) lane.black
 
           last_is : y ≡ last_of (black_at line) w
-          last_is = r ∙ ap (λ k. last_of k w) a.black
+          last_is = r ∙ ap (λ k. last_of k w) lane.black
 
           all : (x v : ℕ) → x < 162 → Dec (x / 9 ≡ line) → Dec (x % 9 ≡ from_of w) → Dec (x % 9 ≡ to_of w) →
               single (line * 9 + f) m x v + inners line w x v + single (line * 9 + t) y x v ≡ parts line w x v

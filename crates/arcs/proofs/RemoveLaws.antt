@@ -22,13 +22,19 @@ use Rattle.table.specs.Lines.{cell_at, black_at}
 use Rattle.arcs.specs.Sunk.{cell_of_place, Lost, Sunk}
 use Rattle.arcs.proofs.SunkLaws.{slot_cell}
 use Rattle.arcs.specs.Kill.{parts, KillAsk}
-use Rattle.arcs.proofs.LineLaws.{line_in, part_half, part_place, sum_drop}
+use Rattle.arcs.proofs.LineLaws.{part_half, part_place, sum_drop}
 use Rattle.arcs.specs.Sweep.{RemoveAsk, UnsupportedIn, LineMoved, Removed}
 
-module _ {n ℓ i len w : ℕ} {lane : Lane} {l : List ℕ} (a : RemoveAsk n ℓ lane i len w l) where
+module _ {i len w : ℕ} {lane : Lane} {l : List ℕ} (a : RemoveAsk lane i len w l) where
+  abbrev n : ℕ
+  n = lane.len
+
+  abbrev ℓ : ℕ
+  ℓ = lane.number
+
   -- the code's indices
   pub remove_bounds : (ℓ < 18) × (len < per_line) × (length l ≡ slab_size)
-  remove_bounds = (line_in a.ready.size a.of, omega (arith, a.tallied.room), a.ready.sized.size)
+  remove_bounds = (lane.within, omega (arith, a.tallied.room), a.ready.sized.size)
 
   among : i < per_line
   among = omega (arith, a.listed, remove_bounds.1)
@@ -85,13 +91,11 @@ module _ {n ℓ i len w : ℕ} {lane : Lane} {l : List ℕ} (a : RemoveAsk n ℓ
   unfolding f
   leaves p v = ap (λ x. part (black_at ℓ) x p v) a.word
 
-  kills : KillAsk n ℓ lane w l₁
+  kills : KillAsk lane w l₁
   kills =
       record {
         sized = grown_sized grown₁ a.ready.sized;
         size = a.ready.size;
-        placed = a.placed;
-        black = a.black;
         shaped = rw a.word (known_shaped n (live l ℓ i) a.ready.size leaving);
         enough = λ q v h k. omega (
           arith,
@@ -103,9 +107,9 @@ module _ {n ℓ i len w : ℕ} {lane : Lane} {l : List ℕ} (a : RemoveAsk n ℓ
         );
       }
 
-  pub remove_kill : {l₂ : List ℕ} → l₂ ≡ exchanged l (live_place ℓ i) (live_place ℓ len) → KillAsk n ℓ lane w l₂
+  pub remove_kill : {l₂ : List ℕ} → l₂ ≡ exchanged l (live_place ℓ i) (live_place ℓ len) → KillAsk lane w l₂
   unfolding l₁ here last
-  remove_kill e = subst (KillAsk n ℓ lane w) (sym e) kills
+  remove_kill e = subst (KillAsk lane w) (sym e) kills
 
   module _ {l₂ l' : List ℕ} (left : l₂ ≡ exchanged l (live_place ℓ i) (live_place ℓ len)) (killed : Sunk (parts ℓ w) l₂ l') where
     s : Sunk (parts ℓ w) l₁ l'

@@ -6,28 +6,18 @@ use native.Mathlib.Omega.{arith}
 use native.Mathlib.Decide.{ℕ_discrete, dec_lt}
 use lib.ListN.{get_or, set}
 use lib.Seq.{get_or-set_same, get_or-set_other}
-use borrow.Author.Tests.{lt-ltb, le-ltb}
 use Rattle.bits.proofs.SumLaws.{same_yes, same_no}
 use Rattle.queue_state.specs.Layout.{counters_at, support_place}
 use Rattle.queue_state.specs.Slab.{cand, Sized, Grown, Struck, One}
 use Rattle.queue_state.proofs.SlabLaws.{cand_lt}
 use Rattle.queue_state.proofs.StruckLaws.{grown_refl, grown_trans, grown_sized, grown_gone, set_cand, set_grown}
+use Rattle.lane.specs.declared.Lane.{Lane}
+use Rattle.lane.proofs.LaneLaws.{cell_in}
 use Rattle.arcs.specs.Arc.{support}
 use Rattle.table.specs.Lines.{cell_at}
 use Rattle.arcs.specs.Sunk.{cell_of_place, Lost, Sunk, single, DropAsk}
 
 -- ---- cells
-
-pub cell_row : (ℓ p : ℕ) → ℓ < 9 → cell_at ℓ p ≡ ℓ * 9 + p
-unfolding cell_at
-cell_row ℓ p h = rw (lt-ltb ℓ 9 h)
-
-pub cell_column : (ℓ p : ℕ) → 9 ≤ ℓ → cell_at ℓ p ≡ p * 9 + (ℓ - 9)
-unfolding cell_at
-cell_column ℓ p h = rw (le-ltb ℓ 9 h)
-
-pub cell_in : (ℓ p : ℕ) → ℓ < 18 → p < 9 → cell_at ℓ p < 81
-cell_in ℓ p h k = elim (dec_lt ℓ 9) [ yes r ↦ omega (arith, cell_row ℓ p r) | no r ↦ omega (arith, cell_column ℓ p (omega arith)) ]
 
 pub slot_cell : (ℓ p : ℕ) → p < 9 → cell_of_place (ℓ * 9 + p) ≡ cell_at ℓ p
 unfolding cell_of_place
@@ -96,7 +86,19 @@ sunk_both {D} {E} {a} {b} {c} s t =
 
 -- ---- one support
 
-module _ {l : List ℕ} {place cell v : ℕ} (a : DropAsk l place cell v) where
+module _ {lane : Lane} {p v : ℕ} {l : List ℕ} (a : DropAsk lane p v l) where
+  abbrev place : ℕ
+  place = lane.number * 9 + p
+
+  abbrev cell : ℕ
+  cell = lane.start + p * lane.stride
+
+  within : place < 162
+  within = omega (arith, lane.within, a.place)
+
+  there : cell ≡ cell_of_place place
+  there = lane.cells p a.place ∙ sym (slot_cell lane.number p a.place)
+
   index : ℕ
   index = support_place place v
 
@@ -116,7 +118,7 @@ module _ {l : List ℕ} {place cell v : ℕ} (a : DropAsk l place cell v) where
 
       go : Dec (y ≡ place) → Dec (u ≡ v) → support (set l index k) y u + single place v y u ≡ support l y u
       go (yes e) (yes f) =
-          let here : support (set l index k) y u ≡ k = rw (e, f) (get_or-set_same l index k 0 (omega (arith, a.sized.size, a.within, a.value))) in
+          let here : support (set l index k) y u ≡ k = rw (e, f) (get_or-set_same l index k 0 (omega (arith, a.sized.size, within, a.value))) in
           let was : support l y u ≡ support l place v = rw (e, f) in
           omega (arith, same_yes y place e, same_yes u v f, a.positive)
       go (yes e) (no f) = omega (arith, other (λ g. f (omega (arith, a.value))), same_no u v f)
@@ -124,7 +126,7 @@ module _ {l : List ℕ} {place cell v : ℕ} (a : DropAsk l place cell v) where
 
   low_rest : (i : ℕ) → counters_at ≤ i → ((y v : ℕ) → y < 162 → v < 16 → (i ≡ support_place y v → ⊥)) → get_or (set l index k) i 0 ≡ get_or l i 0
   unfolding index
-  low_rest i p q = get_or-set_other l index i k 0 (q place v a.within a.value)
+  low_rest i p q = get_or-set_other l index i k 0 (q place v within a.value)
 
   -- the support is not 0 yet
   drop_kept : (support (set l index k) place v ≡ 0 → ⊥) → Sunk (single place v) l (set l index k)
@@ -156,8 +158,8 @@ module _ {l : List ℕ} {place cell v : ℕ} (a : DropAsk l place cell v) where
             let w = s.only x u p (set_cand l index k a.sized (omega arith) x u ∙ f) e in
             record {
               slot = place;
-              within = a.within;
-              there = w.0 ∙ a.there;
+              within = within;
+              there = w.0 ∙ there;
               fell = omega (arith, same_yes place place refl, same_yes u v w.1);
               none = s.rest (support_place place u) (omega arith) ∙ ap (λ t. support (set l index k) place t) w.1 ∙ z;
             };
@@ -167,7 +169,7 @@ module _ {l : List ℕ} {place cell v : ℕ} (a : DropAsk l place cell v) where
       same_here y u = ap (λ t. t + single place v y u) (s.rest (support_place y u) (omega arith))
 
       back : (y u : ℕ) → 0 < single place v y u → Dec (y ≡ place) → Dec (u ≡ v) → cand l' (cell_of_place y) u ≡ 0
-      back y u f (yes e) (yes g) = rw (e, g) (s.gone (cell_of_place place) v a.value (sym a.there, refl))
+      back y u f (yes e) (yes g) = rw (e, g) (s.gone (cell_of_place place) v a.value (sym there, refl))
       back y u f (yes e) (no g) = absurd (omega (arith, same_no u v g))
       back y u f (no e) g = absurd (omega (arith, same_no y place e))
 
@@ -176,13 +178,13 @@ module _ {l : List ℕ} {place cell v : ℕ} (a : DropAsk l place cell v) where
       × (l₁ ≡ set l (support_place place v) (get_or l (support_place place v) 0 - 1))) where
     left_is : support (set l index k) place v ≡ r
     unfolding index k
-    left_is = get_or-set_same l index k 0 (omega (arith, a.sized.size, a.within, a.value)) ∙ sym e.0
+    left_is = get_or-set_same l index k 0 (omega (arith, a.sized.size, within, a.value)) ∙ sym e.0
 
     pub drop_clear : Sized l₁ × (cell < 81) × (v < 16)
     unfolding index k
     drop_clear =
         let g : Sized (set l index k) = grown_sized low_grown a.sized in
-        (rw e.1 g, omega (arith, a.there, slot_in place a.within), a.value)
+        (rw e.1 g, omega (arith, there, slot_in place within), a.value)
 
     pub drop_stays : (r ≡ 0 → ⊥) → Sunk (single place v) l l₁
     unfolding index k

@@ -22,16 +22,22 @@ use Rattle.words.specs.Word.{Known, word_of, part}
 use Rattle.words.proofs.PatternLaws.{part_other}
 use Rattle.arcs.specs.Arc.{lives, live, support, Tallied, Alive, DeadArrangement, Listed, Fewer, Older, Held, Holding}
 use Rattle.table.specs.Lines.{cell_at, black_at}
-use Rattle.arcs.proofs.LineLaws.{line_in, dead_kept, sum_each}
+use Rattle.arcs.proofs.LineLaws.{dead_kept, sum_each}
 use Rattle.arcs.proofs.AliveLaws.{cell_once, alive_kept, alive_next, tallied_same, within_refl, within_trans, holding_drop}
 use Rattle.arcs.specs.Sweep.{RemoveAsk, Removed, Outlives, untouched, Aging, AllAlive, SweepAsk, Sweeping, Swept, LineAsk, LineDone}
 
-module _ {n ℓ p v : ℕ} {lane : Lane} {ws l₀ : List ℕ} (a : SweepAsk n ℓ lane p v ws l₀) where
+module _ {p v : ℕ} {lane : Lane} {ws l₀ : List ℕ} (a : SweepAsk lane p v ws l₀) where
+  abbrev n : ℕ
+  n = lane.len
+
+  abbrev ℓ : ℕ
+  ℓ = lane.number
+
   z : Size n
   z = a.ready.size
 
   pub sweep_line : ℓ < 18
-  sweep_line = line_in a.ready.size a.of
+  sweep_line = lane.within
 
   pub sweep_place : p < 9
   sweep_place = omega (arith, a.place, a.ready.size.high)
@@ -84,14 +90,12 @@ module _ {n ℓ p v : ℕ} {lane : Lane} {ws l₀ : List ℕ} (a : SweepAsk n �
               subst (λ j. Alive n ℓ l (h + 1) (live l ℓ j)) (sym d)
               (alive_next (next h x) a.narrow (λ q hq e. subst (λ q. Outlives n ℓ l q v (live l ℓ i)) (cell_once ℓ p q e) k) (g.todo i (omega arith) b))
 
-      pub sweep_ask : (m w : ℕ) → m ≡ len - 1 → w ≡ word_of n (live l ℓ i) → RemoveAsk n ℓ lane i m w l
+      pub sweep_ask : (m w : ℕ) → m ≡ len - 1 → w ≡ word_of n (live l ℓ i) → RemoveAsk lane i m w l
       sweep_ask m w e f =
           let q : len ≡ m + 1 = omega arith in
           record {
             ready = sweep_ready;
             of = a.of;
-            placed = a.placed;
-            black = a.black;
             tallied = subst (λ k. Tallied n ℓ k l) q s.tallied;
             listed = omega arith;
             word = f;
@@ -214,38 +218,39 @@ module _ {n ℓ p v : ℕ} {lane : Lane} {ws l₀ : List ℕ} (a : SweepAsk n �
 
 -- ---- with support the value is one of the line's half, and without it no live arrangement has it at the place
 
-module _ {n ℓ p v : ℕ} {lane : Lane} {ws l₀ : List ℕ} (a : LineAsk n ℓ lane p v ws l₀) where
+module _ {p v : ℕ} {lane : Lane} {ws l₀ : List ℕ} (a : LineAsk lane p v ws l₀) where
   -- the supports that the code reads
-  line_bounds : (ℓ < 18) × (p < 9) × (length l₀ ≡ slab_size)
-  line_bounds = (line_in a.ready.size a.of, omega (arith, a.place, a.ready.size.high), a.ready.sized.size)
+  line_bounds : (lane.number < 18) × (p < 9) × (length l₀ ≡ slab_size)
+  line_bounds = (lane.within, omega (arith, a.place, a.ready.size.high), a.ready.sized.size)
 
-  supported : support l₀ (ℓ * 9 + p) v ≡ sum_over 0 (lives l₀ ℓ) (λ j. part (black_at ℓ) (word_of n (live l₀ ℓ j)) p v)
+  supported : support l₀ (lane.number * 9 + p) v ≡
+      sum_over 0 (lives l₀ lane.number) (λ j. part (black_at lane.number) (word_of lane.len (live l₀ lane.number j)) p v)
   supported = a.tallied.supports p v line_bounds.1 a.narrow
 
-  pub line_asked : (support l₀ (ℓ * 9 + p) v ≡ 0 → ⊥) → SweepAsk n ℓ lane p v ws l₀
+  pub line_asked : (support l₀ (lane.number * 9 + p) v ≡ 0 → ⊥) → SweepAsk lane p v ws l₀
   unfolding HalfOf
   line_asked d =
       record {
         ready = a.ready;
         words = a.words;
         of = a.of;
-        placed = a.placed;
-        black = a.black;
         place = a.place;
         narrow = a.narrow;
-        half = half (dec_lt v 8) (ℕ_discrete v (black_at ℓ)) (ℕ_discrete v (suc (black_at ℓ)));
+        half = half (dec_lt v 8) (ℕ_discrete v (black_at lane.number)) (ℕ_discrete v (suc (black_at lane.number)));
         gone = a.gone;
         tallied = a.tallied;
       }
     where
-      half : Dec (v < 8) → Dec (v ≡ black_at ℓ) → Dec (v ≡ suc (black_at ℓ)) → (v < 8) ⊎ ((black_at ℓ ≤ v) × (v < black_at ℓ + 2))
+      half : Dec (v < 8) → Dec (v ≡ black_at lane.number) → Dec (v ≡ suc (black_at lane.number)) →
+          (v < 8) ⊎ ((black_at lane.number ≤ v) × (v < black_at lane.number + 2))
       half (yes b) _ _ = inl b
       half (no b) (yes e) _ = inr (omega arith, omega arith)
       half (no b) (no e) (yes f) = inr (omega arith, omega arith)
       half (no b) (no e) (no f) =
-          absurd (d (supported ∙ sum_none 0 (lives l₀ ℓ) _ (λ j _ _. part_other (black_at ℓ) (word_of n (live l₀ ℓ j)) p v (omega arith) e f)))
+          absurd (d (supported ∙ sum_none 0 (lives l₀ lane.number) _
+          (λ j _ _. part_other (black_at lane.number) (word_of lane.len (live l₀ lane.number j)) p v (omega arith) e f)))
 
-  pub line_skipped : support l₀ (ℓ * 9 + p) v ≡ 0 → LineDone n ℓ p v l₀ l₀
+  pub line_skipped : support l₀ (lane.number * 9 + p) v ≡ 0 → LineDone lane.len lane.number p v l₀ l₀
   unfolding Fewer Older AllAlive
   line_skipped e =
       record {
@@ -258,10 +263,10 @@ module _ {n ℓ p v : ℕ} {lane : Lane} {ws l₀ : List ℕ} (a : LineAsk n ℓ
         fewer = λ j b. inl (record { index = j; among = b; is = refl });
         older = λ j b. record { index = j; among = b; is = refl };
         holds = λ K g. g;
-        alive = λ h x f j b. alive_next x a.narrow (λ q hq o. untouched (none q (sym (cell_once ℓ p q o)) j b)) (f j b);
+        alive = λ h x f j b. alive_next x a.narrow (λ q hq o. untouched (none q (sym (cell_once lane.number p q o)) j b)) (f j b);
       }
     where
-      none : (q : ℕ) → q ≡ p → (j : ℕ) → j < lives l₀ ℓ → part (black_at ℓ) (word_of n (live l₀ ℓ j)) q v ≡ 0
+      none : (q : ℕ) → q ≡ p → (j : ℕ) → j < lives l₀ lane.number → part (black_at lane.number) (word_of lane.len (live l₀ lane.number j)) q v ≡ 0
       none q o j b =
-          ap (λ q. part (black_at ℓ) (word_of n (live l₀ ℓ j)) q v) o
-          ∙ sum_each (lives l₀ ℓ) (λ j. part (black_at ℓ) (word_of n (live l₀ ℓ j)) p v) (sym supported ∙ e) j b
+          ap (λ q. part (black_at lane.number) (word_of lane.len (live l₀ lane.number j)) q v) o
+          ∙ sum_each (lives l₀ lane.number) (λ j. part (black_at lane.number) (word_of lane.len (live l₀ lane.number j)) p v) (sym supported ∙ e) j b

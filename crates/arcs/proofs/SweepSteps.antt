@@ -1,6 +1,6 @@
 -- The steps of a sweep as the code makes them. Assumes nothing.
 use Prim.Native.Nat.{ℕ, ◌+◌, ◌-◌, ◌*◌, ◌/◌, ◌%◌, ◌^◌, ◌≤◌, ◌<◌}
-use mathlib.Core.Path.{◌≡◌, sym, ap, ◌∙◌}
+use mathlib.Core.Path.{◌≡◌, refl, sym, ap, ◌∙◌}
 use mathlib.Core.Logic.{⊎_elim}
 use mathlib.Core.Bool.{Bool, true, false}
 use mathlib.Core.List.{List}
@@ -10,28 +10,34 @@ use Rattle.bits.specs.Sum.{same}
 use Rattle.bits.proofs.SumLaws.{same_yes, same_no}
 use Rattle.queue_state.proofs.StruckLaws.{grown_gone}
 use Rattle.lane.specs.declared.Lane.{Lane}
+use Rattle.lane.proofs.LaneLaws.{lane_in}
 use Rattle.words.specs.Word.{word_of, part, shift_of}
 use Rattle.arcs.specs.Arc.{live}
 use Rattle.table.specs.Value.{HalfOf}
 use Rattle.table.specs.Lines.{cell_at, black_at}
 use Rattle.arcs.proofs.KillLaws.{black_low}
-use Rattle.arcs.proofs.WalkLaws.{placed_small}
 use Rattle.arcs.proofs.TestLaws.{shift_part}
 use Rattle.arcs.specs.Have.{test_of, HaveAsk, Have, Tested}
 use Rattle.arcs.proofs.DeathLaws.{have_kept, black_dead, tested_kept, tested_dead}
 use Rattle.arcs.specs.Sweep.{Removed, untouched, SweepAsk, Sweeping}
 use Rattle.arcs.proofs.SweepLaws.{sweep_line, sweep_place, sweep_bounds, sweep_known, sweep_keep, sweep_drop}
 
-module _ {n ℓ p v : ℕ} {lane : Lane} {ws l₀ : List ℕ} (a : SweepAsk n ℓ lane p v ws l₀) where
+module _ {p v : ℕ} {lane : Lane} {ws l₀ : List ℕ} (a : SweepAsk lane p v ws l₀) where
+  abbrev n : ℕ
+  n = lane.len
+
+  abbrev ℓ : ℕ
+  ℓ = lane.number
+
   pub sweep_cell : lane.start + p * lane.stride ≡ cell_at ℓ p
-  sweep_cell = a.placed.cells p (sweep_place a)
+  sweep_cell = lane.cells p (sweep_place a)
 
   pub sweep_small : lane.start + p * lane.stride < 81
-  sweep_small = placed_small a.placed p (sweep_place a)
+  sweep_small = lane_in lane p (sweep_place a)
 
-  pub sweep_first : HaveAsk n lane v l₀
+  pub sweep_first : HaveAsk lane v l₀
   sweep_first =
-      record { size = a.ready.sized.size; high = a.ready.size.high; narrow = a.narrow; cells = λ q h. placed_small a.placed q h }
+      record { size = a.ready.sized.size; high = a.ready.size.high; narrow = a.narrow }
 
   module _ {l : List ℕ} {i len : ℕ} (s : Sweeping n ℓ p v l₀ l i len) (b : i < len) where
     pub sweep_word : (w : ℕ) → w ≡ get_or ws (live l ℓ i) 0 → w ≡ word_of n (live l ℓ i)
@@ -44,7 +50,7 @@ module _ {n ℓ p v : ℕ} {lane : Lane} {ws l₀ : List ℕ} (a : SweepAsk n �
       black_part =
           ap (λ w. part (black_at ℓ) w p v) (sym (sweep_word w e))
           ∙ ⊎_elim (λ q. absurd (omega arith)) (λ q. shift_part (black_at ℓ) w p v (black_low ℓ) q.0 q.1) a.half
-          ∙ ap (λ k. same (w / 2 ^ shift_of k v % 16) p) (sym a.black)
+          ∙ ap (λ k. same (w / 2 ^ shift_of k v % 16) p) (sym lane.black)
           ∙ ap (λ t. same (w / 2 ^ t % 16) p) (sym f)
           ∙ ap (λ x. same x p) (sym g)
 
@@ -77,17 +83,15 @@ module _ {n ℓ p v : ℕ} {lane : Lane} {ws l₀ : List ℕ} (a : SweepAsk n �
       digit_drop m c q k r =
           sweep_drop a s b m c
           (tested_dead n ℓ p v (live l ℓ i) l a.ready.size (sweep_known a s b) a.place h (sweep_line a) w have (get_or l cell 0) o (sweep_word w e)
-          at_cell tested a.placed k q)
+          at_cell tested lane refl k q)
           r
 
-      pub digit_have : {l' : List ℕ} {m : ℕ} → Have lane v l n have → Removed n ℓ i m l l' → HaveAsk n lane v l' × Have lane v l' n have
+      pub digit_have : {l' : List ℕ} {m : ℕ} → Have lane v l n have → Removed n ℓ i m l l' → HaveAsk lane v l' × Have lane v l' n have
       digit_have k r = (
         record {
           size = r.within.grown.size ∙ (sweep_bounds a s).1;
           high = a.ready.size.high;
           narrow = a.narrow;
-          cells = λ q h. placed_small
-              a.placed q h;
         },
-        have_kept a.placed v n have a.narrow a.ready.size.high r.within.grown k,
+        have_kept lane v n have a.narrow a.ready.size.high r.within.grown k,
       )

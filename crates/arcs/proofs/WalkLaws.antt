@@ -17,12 +17,8 @@ use Rattle.words.specs.Word.{set_of, inner_of, from_of, to_of, steps, after}
 use Rattle.words.proofs.StepLaws.{steps_none, steps_lt, steps_same, steps_after, after_in}
 use Rattle.arcs.specs.Arc.{support}
 use Rattle.arcs.specs.Sunk.{Sunk, masked, DigitsAsk}
-use Rattle.arcs.proofs.SunkLaws.{cell_in, slot_cell, sunk_none, sunk_as, sunk_both}
-use Rattle.arcs.specs.Kill.{Placed, inners, InnerAsk}
-
--- the code's places are cells
-pub placed_small : {line : ℕ} {lane : Lane} → Placed line lane → (p : ℕ) → p < 9 → lane.start + p * lane.stride < 81
-placed_small {line} a p h = omega (arith, a.cells p h, cell_in line p a.within h)
+use Rattle.arcs.proofs.SunkLaws.{sunk_none, sunk_as, sunk_both}
+use Rattle.arcs.specs.Kill.{inners, InnerAsk}
 
 -- 1 where a is below b, else 0
 unfoldable pub below : ℕ → ℕ → ℕ
@@ -48,19 +44,25 @@ below_next a b d =
 abbrev pub passed : ℕ → ℕ → ℕ → ℕ → ℕ → ℕ → ℕ
 passed n line w p y v = min (below (steps n (from_of w) (y % 9)) (steps n (from_of w) p)) (inners line w y v)
 
-pub record Walking (n line : ℕ) (lane : Lane) (w : ℕ) (l₀ l : List ℕ) (p : ℕ) : Type 0 where
+pub record Walking (n line w : ℕ) (l₀ l : List ℕ) (p : ℕ) : Type 0 where
   pub within : p < n
   pub begun : 0 < steps n (from_of w) p
   pub upto : steps n (from_of w) p ≤ steps n (from_of w) (to_of w)
   pub sunk : Sunk (passed n line w p) l₀ l
 
-module _ {n line w : ℕ} {lane : Lane} {l₀ : List ℕ} (a : InnerAsk n line lane w l₀) where
+module _ {w : ℕ} {lane : Lane} {l₀ : List ℕ} (a : InnerAsk lane w l₀) where
+  abbrev n : ℕ
+  n = lane.len
+
+  abbrev line : ℕ
+  line = lane.number
+
   -- one step on is still on the way
   ahead : (p : ℕ) → p < n → steps n (from_of w) p < steps n (from_of w) (to_of w) → steps n (from_of w) (after n p) ≡ steps n (from_of w) p + 1
   ahead p h l =
       steps_after n (from_of w) p a.shaped.from_in h (omega (arith, steps_lt n (from_of w) (to_of w) a.shaped.from_in a.shaped.to_in))
 
-  pub walking_start : (f p : ℕ) → f ≡ from_of w → p ≡ after n f → Walking n line lane w l₀ l₀ p
+  pub walking_start : (f p : ℕ) → f ≡ from_of w → p ≡ after n f → Walking n line w l₀ l₀ p
   walking_start f p e q =
       let z = steps_none n (from_of w) in
       let i = a.shaped.from_in in
@@ -82,7 +84,7 @@ module _ {n line w : ℕ} {lane : Lane} {l₀ : List ℕ} (a : InnerAsk n line l
           out (yes i) = omega (arith, a.shaped.beyond (y % 9) i (inl (omega arith)))
           out (no i) = omega (arith, a.shaped.past (y % 9) (omega arith) (omega arith))
 
-  module _ {l : List ℕ} {p : ℕ} (c : Walking n line lane w l₀ l p) (t : ℕ) (e : t ≡ to_of w) (d : p ≡ t → ⊥) where
+  module _ {l : List ℕ} {p : ℕ} (c : Walking n line w l₀ l p) (t : ℕ) (e : t ≡ to_of w) (d : p ≡ t → ⊥) where
     before_end : steps n (from_of w) p < steps n (from_of w) (to_of w)
     before_end = go (ℕ_discrete (steps n (from_of w) p) (steps n (from_of w) (to_of w)))
       where
@@ -102,21 +104,20 @@ module _ {n line w : ℕ} {lane : Lane} {l₀ : List ℕ} (a : InnerAsk n line l
     slot_place : (line * 9 + p) % 9 ≡ p
     slot_place = omega (arith, narrow)
 
-    pub walking_ask : (x m : ℕ) → x ≡ set_of w → m ≡ lane.start + p * lane.stride → DigitsAsk l (line * 9 + p) m x
-    walking_ask x m f g =
+    pub walking_ask : (x : ℕ) → x ≡ set_of w → DigitsAsk lane p x l
+    walking_ask x f =
         record {
           sized = grown_sized c.sunk.grown a.sized;
-          within = omega (arith, narrow, a.placed.within);
-          there = g ∙ a.placed.cells p narrow ∙ sym (slot_cell line p narrow);
+          place = narrow;
           enough = λ v h. rw f (enough v h);
         }
       where
         enough : (v : ℕ) → v < 16 → bit v (set_of w) ≤ support l (line * 9 + p) v
         enough v h =
             let z : below (steps n (from_of w) ((line * 9 + p) % 9)) (steps n (from_of w) p) ≡ 0 = rw slot_place (below_no _ _ (omega arith)) in
-            omega (arith, c.sunk.falls (line * 9 + p) v (omega (arith, narrow, a.placed.within)) h, a.enough p v narrow h, inner, bit_lt v (set_of w))
+            omega (arith, c.sunk.falls (line * 9 + p) v (omega (arith, narrow, lane.within)) h, a.enough p v narrow h, inner, bit_lt v (set_of w))
 
-    pub walking_next : {l' : List ℕ} (x p' : ℕ) → x ≡ set_of w → p' ≡ after n p → Sunk (masked (line * 9 + p) x) l l' → Walking n line lane w l₀ l' p'
+    pub walking_next : {l' : List ℕ} (x p' : ℕ) → x ≡ set_of w → p' ≡ after n p → Sunk (masked (line * 9 + p) x) l l' → Walking n line w l₀ l' p'
     walking_next {l'} x p' f g m =
         let h = ahead p c.within before_end in
         let k : steps n (from_of w) p' ≡ steps n (from_of w) p + 1 = ap (steps n (from_of w)) g ∙ h in
@@ -145,7 +146,7 @@ module _ {n line w : ℕ} {lane : Lane} {l₀ : List ℕ} (a : InnerAsk n line l
                 omega (arith, same_no y (line * 9 + p) q)
             go (no i) = omega (arith, same_no y (line * 9 + p) q, a.shaped.past (y % 9) (omega arith) (omega arith))
 
-  pub walking_end : {l : List ℕ} {p : ℕ} → Walking n line lane w l₀ l p → (t : ℕ) → t ≡ to_of w → p ≡ t → Sunk (inners line w) l₀ l
+  pub walking_end : {l : List ℕ} {p : ℕ} → Walking n line w l₀ l p → (t : ℕ) → t ≡ to_of w → p ≡ t → Sunk (inners line w) l₀ l
   walking_end {l} {p} c t e d = sunk_as c.sunk (λ y v hy hv. all y v (dec_lt (y % 9) n) (dec_lt (steps n (from_of w) (y % 9)) (steps n (from_of w) p)))
     where
       at_end : steps n (from_of w) p ≡ steps n (from_of w) (to_of w)
@@ -157,7 +158,7 @@ module _ {n line w : ℕ} {lane : Lane} {l₀ : List ℕ} (a : InnerAsk n line l
       all y v (yes i) (no l) = omega (arith, a.shaped.beyond (y % 9) i (inr (omega (arith, at_end))))
 
   -- each step comes nearer
-  pub walking_less : {l : List ℕ} {p : ℕ} → Walking n line lane w l₀ l p → (t : ℕ) → t ≡ to_of w → (p ≡ t → ⊥) → (p' : ℕ) → p' ≡ after n p →
+  pub walking_less : {l : List ℕ} {p : ℕ} → Walking n line w l₀ l p → (t : ℕ) → t ≡ to_of w → (p ≡ t → ⊥) → (p' : ℕ) → p' ≡ after n p →
       steps n (from_of w) (to_of w) - steps n (from_of w) p' < steps n (from_of w) (to_of w) - steps n (from_of w) p
   walking_less c t e d p' g =
       let b = before_end c t e d in

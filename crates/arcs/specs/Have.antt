@@ -6,12 +6,11 @@ use Rattle.lane.specs.declared.Lane.{Lane}
 use Rattle.words.specs.Word.{set_of, covered_of}
 use Rattle.queue_state.specs.Layout.{slab_size}
 
--- A line of n places, from its start on.
-pub record HaveAsk (n : ℕ) (lane : Lane) (v : ℕ) (l : List ℕ) : Type 0 where
+-- The places of a line can be read.
+pub record HaveAsk (lane : Lane) (v : ℕ) (l : List ℕ) : Type 0 where
   pub size : length l ≡ slab_size
-  pub high : n ≤ 9
+  pub high : lane.len ≤ 9
   pub narrow : v < 16
-  pub cells : (q : ℕ) → q < 9 → lane.start + q * lane.stride < 81
 
 -- Every place before p that has the value v is in the mask have.
 unfoldable pub Have : Lane → ℕ → List ℕ → ℕ → ℕ → Type 0

@@ -1,5 +1,5 @@
 -- An arrangement that dies: its supports fall from end to end. Assumes nothing.
-use Rattle.std.specs.Prelude.{ℕ, ◌+◌, ◌*◌, ◌/◌, ◌%◌, min, ◌≤◌, ◌<◌, ◌≡◌, List}
+use Rattle.std.specs.Prelude.{ℕ, ◌+◌, ◌*◌, ◌/◌, ◌%◌, min, ◌≤◌, ◌<◌, List}
 use Rattle.bits.specs.Bit.{bit}
 use Rattle.bits.specs.Sum.{same}
 use Rattle.rules.specs.Size.{Size}
@@ -7,12 +7,7 @@ use Rattle.queue_state.specs.Slab.{Sized}
 use Rattle.lane.specs.declared.Lane.{Lane}
 use Rattle.words.specs.Word.{set_of, inner_of, part, Shaped}
 use Rattle.arcs.specs.Arc.{support}
-use Rattle.table.specs.Lines.{cell_at, black_at}
-
--- The cells of the lane are those of the line with the number, place by place.
-pub record Placed (line : ℕ) (lane : Lane) : Type 0 where
-  pub within : line < 18
-  pub cells : (p : ℕ) → p < 9 → lane.start + p * lane.stride ≡ cell_at line p
+use Rattle.table.specs.Lines.{black_at}
 
 -- How the supports of a line fall when a word leaves it: all of it, and its inner places alone.
 abbrev pub parts : ℕ → ℕ → ℕ → ℕ → ℕ
@@ -23,18 +18,15 @@ abbrev pub inners : ℕ → ℕ → ℕ → ℕ → ℕ
 inners line w y v = min (same (y / 9) line) (min (bit (y % 9) (inner_of w)) (bit v (set_of w)))
 
 -- A word of the line whose supports at its inner places are there to fall.
-pub record InnerAsk (n line : ℕ) (lane : Lane) (w : ℕ) (l : List ℕ) : Type 0 where
+pub record InnerAsk (lane : Lane) (w : ℕ) (l : List ℕ) : Type 0 where
   pub sized : Sized l
-  pub size : Size n
-  pub placed : Placed line lane
-  pub shaped : Shaped n w
-  pub enough : (q v : ℕ) → q < 9 → v < 16 → min (bit q (inner_of w)) (bit v (set_of w)) ≤ support l (line * 9 + q) v
+  pub size : Size lane.len
+  pub shaped : Shaped lane.len w
+  pub enough : (q v : ℕ) → q < 9 → v < 16 → min (bit q (inner_of w)) (bit v (set_of w)) ≤ support l (lane.number * 9 + q) v
 
 -- A word of the line whose supports are all there to fall.
-pub record KillAsk (n line : ℕ) (lane : Lane) (w : ℕ) (l : List ℕ) : Type 0 where
+pub record KillAsk (lane : Lane) (w : ℕ) (l : List ℕ) : Type 0 where
   pub sized : Sized l
-  pub size : Size n
-  pub placed : Placed line lane
-  pub black : lane.first ≡ black_at line
-  pub shaped : Shaped n w
-  pub enough : (q v : ℕ) → q < 9 → v < 16 → part (black_at line) w q v ≤ support l (line * 9 + q) v
+  pub size : Size lane.len
+  pub shaped : Shaped lane.len w
+  pub enough : (q v : ℕ) → q < 9 → v < 16 → part (black_at lane.number) w q v ≤ support l (lane.number * 9 + q) v

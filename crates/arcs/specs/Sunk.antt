@@ -1,9 +1,10 @@
 -- Supports that fall, and the strikes that follow. Assumes nothing.
-use Rattle.std.specs.Prelude.{ℕ, ◌+◌, ◌/◌, ◌%◌, min, ◌≤◌, ◌<◌, ◌≡◌, List, get_or}
+use Rattle.std.specs.Prelude.{ℕ, ◌+◌, ◌*◌, ◌/◌, ◌%◌, min, ◌≤◌, ◌<◌, ◌≡◌, List, get_or}
 use Rattle.bits.specs.Bit.{bit}
 use Rattle.bits.specs.Sum.{same}
 use Rattle.queue_state.specs.Layout.{counters_at, support_place}
 use Rattle.queue_state.specs.Slab.{cand, Sized, Grown}
+use Rattle.lane.specs.declared.Lane.{Lane}
 use Rattle.arcs.specs.Arc.{support}
 use Rattle.table.specs.Lines.{cell_at}
 
@@ -35,17 +36,15 @@ single place value y v = min (same y place) (same v value)
 abbrev pub masked : ℕ → ℕ → ℕ → ℕ → ℕ
 masked place mask y v = min (same y place) (bit v mask)
 
--- A support that is not 0, and the cell of its place.
-pub record DropAsk (l : List ℕ) (place cell v : ℕ) : Type 0 where
+-- The support of the value v at place p of a line can fall: it is not 0.
+pub record DropAsk (lane : Lane) (p v : ℕ) (l : List ℕ) : Type 0 where
   pub sized : Sized l
-  pub within : place < 162
-  pub there : cell ≡ cell_of_place place
+  pub place : p < 9
   pub value : v < 16
-  pub positive : 0 < support l place v
+  pub positive : 0 < support l (lane.number * 9 + p) v
 
--- The values of a mask have a support at the place, and the cell is that of the place.
-pub record DigitsAsk (l : List ℕ) (place cell mask : ℕ) : Type 0 where
+-- The values of a mask have a support at place p of a line.
+pub record DigitsAsk (lane : Lane) (p mask : ℕ) (l : List ℕ) : Type 0 where
   pub sized : Sized l
-  pub within : place < 162
-  pub there : cell ≡ cell_of_place place
-  pub enough : (v : ℕ) → v < 16 → bit v mask ≤ support l place v
+  pub place : p < 9
+  pub enough : (v : ℕ) → v < 16 → bit v mask ≤ support l (lane.number * 9 + p) v

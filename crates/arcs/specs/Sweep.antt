@@ -8,19 +8,16 @@ use Rattle.words.specs.Word.{word_of, part, Words}
 use Rattle.arcs.specs.Arc.{lives, live, support, Tallied, Alive, Fewer, Older, Holding, Unsupported}
 use Rattle.table.specs.Value.{HalfOf}
 use Rattle.table.specs.Lines.{cell_at, black_at, LineOf}
-use Rattle.arcs.specs.Kill.{Placed}
 
 -- ---- one arrangement leaves
 
 -- Arrangement i of the first len + 1 of a line's list is to leave, and w is its word.
-pub record RemoveAsk (n line : ℕ) (lane : Lane) (i len w : ℕ) (l : List ℕ) : Type 0 where
-  pub ready : Ready n l
-  pub of : LineOf n line
-  pub placed : Placed line lane
-  pub black : lane.first ≡ black_at line
-  pub tallied : Tallied n line (len + 1) l
+pub record RemoveAsk (lane : Lane) (i len w : ℕ) (l : List ℕ) : Type 0 where
+  pub ready : Ready lane.len l
+  pub of : LineOf lane.len lane.number
+  pub tallied : Tallied lane.len lane.number (len + 1) l
   pub listed : i ≤ len
-  pub word : w ≡ word_of n (live l line i)
+  pub word : w ≡ word_of lane.len (live l lane.number i)
 
 -- The value v of the cell x lies in no live arrangement of line ℓ.
 pub record UnsupportedIn (n ℓ : ℕ) (l : List ℕ) (x v : ℕ) : Type 0 where
@@ -62,18 +59,16 @@ pub record Aging (n ℓ : ℕ) (l : List ℕ) (h i len : ℕ) : Type 0 where
 unfoldable pub AllAlive : ℕ → ℕ → List ℕ → ℕ → Type 0
 AllAlive n ℓ l h = (j : ℕ) → j < lives l ℓ → Alive n ℓ l h (live l ℓ j)
 
--- What the sweep of line ℓ for the strike of v at place p needs.
-pub record SweepAsk (n line : ℕ) (lane : Lane) (p v : ℕ) (ws l : List ℕ) : Type 0 where
-  pub ready : Ready n l
-  pub words : Words n ws
-  pub of : LineOf n line
-  pub placed : Placed line lane
-  pub black : lane.first ≡ black_at line
-  pub place : p < n
+-- What the sweep of a line for the strike of v at place p needs.
+pub record SweepAsk (lane : Lane) (p v : ℕ) (ws l : List ℕ) : Type 0 where
+  pub ready : Ready lane.len l
+  pub words : Words lane.len ws
+  pub of : LineOf lane.len lane.number
+  pub place : p < lane.len
   pub narrow : v < 16
-  pub half : HalfOf (black_at line) v
-  pub gone : cand l (cell_at line p) v ≡ 0
-  pub tallied : Tallied n line (lives l line) l
+  pub half : HalfOf (black_at lane.number) v
+  pub gone : cand l (cell_at lane.number p) v ≡ 0
+  pub tallied : Tallied lane.len lane.number (lives l lane.number) l
 
 -- The first i of len arrangements are swept.
 pub record Sweeping (n ℓ p v : ℕ) (l₀ l : List ℕ) (i len : ℕ) : Type 0 where
@@ -91,17 +86,15 @@ Swept n ℓ p v l₀ l len = Sweeping n ℓ p v l₀ l len len
 
 -- ---- a line is handled
 
--- What handling the strike of v at place p of line ℓ needs, where v may be a value of the other half.
-pub record LineAsk (n line : ℕ) (lane : Lane) (p v : ℕ) (ws l : List ℕ) : Type 0 where
-  pub ready : Ready n l
-  pub words : Words n ws
-  pub of : LineOf n line
-  pub placed : Placed line lane
-  pub black : lane.first ≡ black_at line
-  pub place : p < n
+-- What handling the strike of v at place p of a line needs, where v may be a value of the other half.
+pub record LineAsk (lane : Lane) (p v : ℕ) (ws l : List ℕ) : Type 0 where
+  pub ready : Ready lane.len l
+  pub words : Words lane.len ws
+  pub of : LineOf lane.len lane.number
+  pub place : p < lane.len
   pub narrow : v < 16
-  pub gone : cand l (cell_at line p) v ≡ 0
-  pub tallied : Tallied n line (lives l line) l
+  pub gone : cand l (cell_at lane.number p) v ≡ 0
+  pub tallied : Tallied lane.len lane.number (lives l lane.number) l
 
 -- The list and supports of line m are as they were.
 pub record Same (m : ℕ) (l l' : List ℕ) : Type 0 where

@@ -16,7 +16,7 @@ use value::{Bits, Candidate, Value};
 
 // A support falls; without support the candidate is struck.
 fn drop_support(st: &mut [u16], lane: Lane, p: usize, v: usize)
-    requires { DropAsk st.old (lane.number * 9 + p) (lane.start + p * lane.stride) v }
+    requires { DropAsk lane p v st.old }
     ensures { Sunk (single (lane.number * 9 + p) v) st.old st.new }
 {
     if queue_state::lower(st, Slab::SUPPORT + (lane.number * 9 + p) * 16 + v) == 0 {
@@ -26,7 +26,7 @@ fn drop_support(st: &mut [u16], lane: Lane, p: usize, v: usize)
 
 // The supports of a set of digits fall at one place.
 fn drop_digits(st: &mut [u16], lane: Lane, p: usize, set: u16)
-    requires { DigitsAsk st.old (lane.number * 9 + p) (lane.start + p * lane.stride) set }
+    requires { DigitsAsk lane p set st.old }
     ensures { Sunk (masked (lane.number * 9 + p) set) st.old st.new }
 {
     for v in (Bits { rest: set }) {
@@ -44,7 +44,7 @@ fn next_place(n: usize, p: usize) -> usize
 
 // The supports of a word fall at its inner places.
 fn drop_inner(st: &mut [u16], lane: Lane, w: u32)
-    requires { InnerAsk lane.len lane.number lane w st.old }
+    requires { InnerAsk lane w st.old }
     ensures { Sunk (inners lane.number w) st.old st.new }
 {
     let set = words::set_of(w);
@@ -59,7 +59,7 @@ fn drop_inner(st: &mut [u16], lane: Lane, w: u32)
 
 // An arrangement leaves its line: its supports fall from end to end.
 fn kill(st: &mut [u16], lane: Lane, w: u32)
-    requires { KillAsk lane.len lane.number lane w st.old }
+    requires { KillAsk lane w st.old }
     ensures { Sunk (parts lane.number w) st.old st.new }
 {
     drop_support(st, lane, words::from_of(w), words::head_of(w, lane.first));
@@ -69,7 +69,7 @@ fn kill(st: &mut [u16], lane: Lane, w: u32)
 
 // Arrangement i of the list leaves, and w is its word; the last one takes its place, and len are left.
 fn remove(st: &mut [u16], lane: Lane, i: usize, len: usize, w: u32)
-    requires { RemoveAsk lane.len lane.number lane i len w st.old }
+    requires { RemoveAsk lane i len w st.old }
     ensures { Removed lane.len lane.number i len st.old st.new }
 {
     live_list::remove(st, Slab::LIVE + lane.number * Slab::PER_LINE, i, len);
@@ -101,7 +101,7 @@ fn keeps(w: u32, test: u32, have: u32, cands: u16) -> bool
 
 // The places of a line that have the value v. All nine, however long it is: a fixed count costs half, and behind its end no cell has a candidate.
 fn having(st: &[u16], lane: Lane, v: usize) -> u32
-    requires { HaveAsk lane.len lane v st.now }
+    requires { HaveAsk lane v st.now }
     ensures { Have lane v st.now lane.len result }
 {
     let mut have = 0u32;
@@ -113,7 +113,7 @@ fn having(st: &[u16], lane: Lane, v: usize) -> u32
 
 // The same, if strikes were made since the queue had t of them.
 fn having_since(st: &[u16], lane: Lane, v: usize, t: u16, have: u32) -> u32
-    requires { HaveAsk lane.len lane v st.now × Have lane v st.now lane.len have }
+    requires { HaveAsk lane v st.now × Have lane v st.now lane.len have }
     ensures { Have lane v st.now lane.len result }
 {
     if st[Slab::TAIL] == t {
@@ -126,7 +126,7 @@ fn having_since(st: &[u16], lane: Lane, v: usize, t: u16, have: u32) -> u32
 // The sweep for a digit that is struck at place p: the dead arrangements of the line leave. Gives how many are left.
 // Not one with sweep_black: this test goes on with `have` as removals strike, and a trait or a closure for the two tests is longer than the loop twice.
 fn sweep_digit(st: &mut [u16], words: &[u32], lane: Lane, p: usize, v: usize) -> usize
-    requires { SweepAsk lane.len lane.number lane p v words.now st.old × (v < 8) }
+    requires { SweepAsk lane p v words.now st.old × (v < 8) }
     ensures { Swept lane.len lane.number p v st.old st.new result }
 {
     let cell = lane.start + p * lane.stride;
@@ -151,7 +151,7 @@ fn sweep_digit(st: &mut [u16], words: &[u32], lane: Lane, p: usize, v: usize) ->
 
 // The sweep for a black that is struck at place p: the arrangements that have it there leave. Gives how many are left.
 fn sweep_black(st: &mut [u16], words: &[u32], lane: Lane, p: usize, v: usize) -> usize
-    requires { SweepAsk lane.len lane.number lane p v words.now st.old × (8 ≤ v) }
+    requires { SweepAsk lane p v words.now st.old × (8 ≤ v) }
     ensures { Swept lane.len lane.number p v st.old st.new result }
 {
     let shift = words::black_shift(lane.first, v);
@@ -172,7 +172,7 @@ fn sweep_black(st: &mut [u16], words: &[u32], lane: Lane, p: usize, v: usize) ->
 
 // The sweep for the value v that is struck at place p. Gives how many arrangements are left.
 fn sweep(st: &mut [u16], words: &[u32], lane: Lane, p: usize, v: usize) -> usize
-    requires { SweepAsk lane.len lane.number lane p v words.now st.old }
+    requires { SweepAsk lane p v words.now st.old }
     ensures { Swept lane.len lane.number p v st.old st.new result }
 {
     if v < Value::BLACK1_ROW {
@@ -184,7 +184,7 @@ fn sweep(st: &mut [u16], words: &[u32], lane: Lane, p: usize, v: usize) -> usize
 
 // The value v is struck at place p of a line: its dead arrangements leave.
 fn update_line(st: &mut [u16], words: &[u32], lane: Lane, p: usize, v: usize)
-    requires { SweepAsk lane.len lane.number lane p v words.now st.old }
+    requires { SweepAsk lane p v words.now st.old }
     ensures { LineDone lane.len lane.number p v st.old st.new }
 {
     let len = sweep(st, words, lane, p, v);
@@ -194,7 +194,7 @@ fn update_line(st: &mut [u16], words: &[u32], lane: Lane, p: usize, v: usize)
 // The same, if any of them has it there: a value of the other half has no support in the line. Inline, else LLVM takes the sweep in here: 8 % more work.
 #[inline(always)]
 fn update_supported(st: &mut [u16], words: &[u32], lane: Lane, p: usize, v: usize)
-    requires { LineAsk lane.len lane.number lane p v words.now st.old }
+    requires { LineAsk lane p v words.now st.old }
     ensures { LineDone lane.len lane.number p v st.old st.new }
 {
     if st[Slab::SUPPORT + (lane.number * 9 + p) * 16 + v] != 0 {

@@ -1,8 +1,10 @@
 // A line as the code walks it, so that rows and columns are one case.
 #![tactic(auto)]
 
-ghost use Rattle.std.specs.Prelude.{◌≡◌, ◌+◌, ◌*◌, ◌<◌};
-ghost use Rattle.lane.specs.Lanes.{row_lane, column_lane, lane_black, lane_value};
+ghost use Rattle.std.specs.Prelude.{◌≡◌, ℕ, ◌+◌, ◌*◌, ◌<◌};
+ghost use Rattle.rules.specs.Mark.{left_black, upper_black};
+ghost use Rattle.table.specs.Lines.{cell_at, black_at};
+ghost use Rattle.lane.specs.Lanes.{lane_black, lane_value};
 
 use value::Value;
 
@@ -14,13 +16,16 @@ pub struct Lane {
     pub stride: usize,
     pub first: usize,
     pub len: usize,
+    pub ghost within: { number < 18 },
+    pub ghost cells: { (p : ℕ) → p < 9 → start + p * stride ≡ cell_at number p },
+    pub ghost black: { first ≡ black_at number },
 }
 
 // A row and a column each have numbers of their own: one function for both would take them all, or which of the two it is.
 impl Lane {
     pub fn row(len: usize, r: usize) -> Lane
         requires { r < 9 }
-        ensures { result ≡ row_lane len r }
+        ensures { (result.number ≡ r) × (result.start ≡ r * 9) × (result.stride ≡ 1) × (result.first ≡ left_black) × (result.len ≡ len) }
     {
         Lane {
             number: r,
@@ -33,7 +38,7 @@ impl Lane {
 
     pub fn column(len: usize, c: usize) -> Lane
         requires { c < 9 }
-        ensures { result ≡ column_lane len c }
+        ensures { (result.number ≡ 9 + c) × (result.start ≡ c) × (result.stride ≡ 9) × (result.first ≡ upper_black) × (result.len ≡ len) }
     {
         Lane {
             number: 9 + c,
@@ -54,14 +59,14 @@ impl Lane {
 
     // Its own blacks, of the four of a cell.
     pub fn has_black(self, v: usize) -> bool
-        ensures { result ≡ lane_black self v }
+        ensures { result ≡ lane_black self.first v }
     {
         self.first <= v && v - self.first < 2
     }
 
     // The values of its half of a cell: the digits and its own blacks.
     pub fn has(self, v: usize) -> bool
-        ensures { result ≡ lane_value self v }
+        ensures { result ≡ lane_value self.first v }
     {
         v < Value::BLACK1_ROW || self.has_black(v)
     }

@@ -1,11 +1,10 @@
 -- Adding arrangements to a line, one after the other. Assumes nothing.
 use Prim.Native.Nat.{ℕ, zero, suc, ◌+◌, ◌-◌, ◌*◌, ◌/◌, ◌%◌, ◌^◌, ◌≤◌, ◌<◌}
 use mathlib.Core.Path.{◌≡◌, refl, sym, ap, ap₂, ◌∙◌}
-use mathlib.Core.Bool.{Bool, true, false, cond}
+use mathlib.Core.Bool.{Bool, true, false}
 use mathlib.Core.List.{List, [], ◌∷◌, ◌++◌, map, append_assoc, append-nil, map-append}
 use native.Mathlib.Omega.{arith}
 use native.Mathlib.Decide.{dec_lt}
-use lib.Dec.{ltb}
 use lib.ListN.{length, get_or, set, length-set, length-append, length-map}
 use borrow.Author.Tests.{lt-ltb, le-ltb}
 use lib.Seq.{get_or-set_same, get_or-set_other}
@@ -15,6 +14,7 @@ use Rattle.tally.specs.Tally.{span, keep, join}
 use Rattle.tally.specs.Tally as tally
 use Rattle.tally.proofs.TallyLaws.{sum_append, span_length}
 use Rattle.rules.proofs.StridedLaws.{map_next}
+use Rattle.lane.specs.declared.Lane.{Lane}
 use Rattle.words.specs.Word.{mask_in, size_in, from_sum, Known, word_of, part, on_side}
 use Rattle.words.proofs.WordFacts.{subset_fits, from_sum_most}
 use Rattle.words.proofs.FillLaws.{top_is}
@@ -104,52 +104,39 @@ added_both {n} {ℓ} {a} {b} {c} {x} {y} r s =
     }
 
 -- where there is room for all, there is room for the first of them, and for the others after those
-pub addable_first : {n ℓ k : ℕ} {ws l : List ℕ} (x y : List ℕ) → AddAsk n ℓ k ws l (x ++ y) → AddAsk n ℓ k ws l x
+pub addable_first : {lane : Lane} {ws l : List ℕ} (x y : List ℕ) → AddAsk lane ws l (x ++ y) → AddAsk lane ws l x
 addable_first x y a =
     record {
       size = a.size;
       words = a.words;
-      line = a.line;
-      black = a.black;
       long = a.long;
       room = omega (arith, a.room, length-append x y);
       low = a.low;
     }
 
-pub addable_after : {n ℓ k : ℕ} {ws l l' : List ℕ} (x y : List ℕ) → AddAsk n ℓ k ws l (x ++ y) → Added n ℓ l l' x → AddAsk n ℓ k ws l' y
-addable_after {n} {ℓ} x y a d =
+pub addable_after : {lane : Lane} {ws l l' : List ℕ} (x y : List ℕ) → AddAsk lane ws l (x ++ y) → Added lane.len lane.number l l' x → AddAsk lane ws l' y
+addable_after {lane} x y a d =
     record {
       size = a.size;
       words = a.words;
-      line = a.line;
-      black = a.black;
       long = d.size ∙ a.long;
       room = omega (arith, a.room, length-append x y, added_lives d);
-      low = λ p v h k. omega (arith, a.low p v h k, d.supports p v h k, added_lives d, parts_le (black_at ℓ) n p v x);
+      low = λ p v h k. omega (arith, a.low p v h k, d.supports p v h k, added_lives d, parts_le (black_at lane.number) lane.len p v x);
     }
 
 -- none yet; some more; all
-pub adding_start : {n ℓ k : ℕ} {ws l whole : List ℕ} → AddAsk n ℓ k ws l whole → Adding n ℓ k ws l l whole whole
-adding_start {n} {ℓ} {l = l} a = record { done = []; added = added_none n ℓ l; is = refl; ask = a }
+pub adding_start : {lane : Lane} {ws l whole : List ℕ} → AddAsk lane ws l whole → Adding lane ws l l whole whole
+adding_start {lane} {l = l} a = record { done = []; added = added_none lane.len lane.number l; is = refl; ask = a }
 
-pub adding_next : {n ℓ k : ℕ} {ws l₀ l l' whole : List ℕ} (x y : List ℕ) → Adding n ℓ k ws l₀ l (x ++ y) whole → Added n ℓ l l' x →
-    Adding n ℓ k ws l₀ l' y whole
+pub adding_next : {lane : Lane} {ws l₀ l l' whole : List ℕ} (x y : List ℕ) → Adding lane ws l₀ l (x ++ y) whole → Added lane.len lane.number l l' x →
+    Adding lane ws l₀ l' y whole
 adding_next x y a d =
     record { done = a.done ++ x; added = added_both a.added d; is = append_assoc a.done x y ∙ a.is; ask = addable_after x y a.ask d }
 
-pub adding_end : {n ℓ k : ℕ} {ws l₀ l whole : List ℕ} → Adding n ℓ k ws l₀ l [] whole → Added n ℓ l₀ l whole
-adding_end {n} {ℓ} {l₀ = l₀} {l = l} a = rw (sym (append-nil a.done) ∙ a.is) at a.added
+pub adding_end : {lane : Lane} {ws l₀ l whole : List ℕ} → Adding lane ws l₀ l [] whole → Added lane.len lane.number l₀ l whole
+adding_end {lane} {l₀ = l₀} {l = l} a = rw (sym (append-nil a.done) ∙ a.is) at a.added
 
 -- ---- one arrangement, as the code adds it
-
--- a line's first black is 8 or 10
-pub black_in : (ℓ : ℕ) → (8 ≤ black_at ℓ) × (black_at ℓ < 11)
-unfolding black_at
-black_in ℓ = go (ltb ℓ 9)
-  where
-    go : (b : Bool) → (8 ≤ cond b 8 10) × (cond b 8 10 < 11)
-    go true = omega arith
-    go false = omega arith
 
 -- the list is one longer
 abbrev pub appended : ℕ → List ℕ → ℕ → ℕ → List ℕ
@@ -158,7 +145,13 @@ appended ℓ l len id = set (set l (live_place ℓ len) id) (length_place ℓ) (
 pub joined_length : (ℓ : ℕ) (l : List ℕ) (len id : ℕ) → length (appended ℓ l len id) ≡ length l
 joined_length ℓ l len id = simp length-set
 
-module _ {n ℓ k : ℕ} {ws l : List ℕ} (id : ℕ) (a : AddAsk n ℓ k ws l (id ∷ [])) (y : Known n id) (len : ℕ) (e : len ≡ lives l ℓ) where
+module _ {lane : Lane} {ws l : List ℕ} (id : ℕ) (a : AddAsk lane ws l (id ∷ [])) (y : Known lane.len id) (len : ℕ) (e : len ≡ lives l lane.number) where
+  abbrev n : ℕ
+  n = lane.len
+
+  abbrev ℓ : ℕ
+  ℓ = lane.number
+
   other : (q : ℕ) → (q ≡ live_place ℓ len → ⊥) → (q ≡ length_place ℓ → ⊥) → get_or (appended ℓ l len id) q 0 ≡ get_or l q 0
   other q x z = get_or-set_other (set l (live_place ℓ len) id) (length_place ℓ) q (len + 1) 0 z ∙ get_or-set_other l (live_place ℓ len) q id 0 x
 
@@ -169,36 +162,33 @@ module _ {n ℓ k : ℕ} {ws l : List ℕ} (id : ℕ) (a : AddAsk n ℓ k ws l (
   word = a.words.each id y
 
   support_still : (p v : ℕ) → p < 9 → v < 16 → support (appended ℓ l len id) (ℓ * 9 + p) v ≡ support l (ℓ * 9 + p) v
-  support_still p v h i = other (support_place (ℓ * 9 + p) v) (λ x. omega (arith, room, a.line)) (λ x. omega (arith, a.line))
+  support_still p v h i = other (support_place (ℓ * 9 + p) v) (λ x. omega (arith, room, lane.within)) (λ x. omega (arith, lane.within))
 
   -- its pattern can be added to the supports
-  pub add_ask : WordAsk n ℓ k (get_or ws id 0) (appended ℓ l len id)
+  pub add_ask : WordAsk lane (get_or ws id 0) (appended ℓ l len id)
   add_ask =
       record {
         size = a.size;
         shaped = rw word (known_shaped n id a.size y);
-        line = a.line;
-        first = omega (arith, a.black, black_in ℓ);
-        second = omega (arith, a.black, black_in ℓ);
         long = joined_length ℓ l len id ∙ a.long;
         low = λ p v h i. omega (arith, support_still p v h i, a.low p v h i, a.room);
       }
 
-  module _ {l₃ : List ℕ} (r : Raised ℓ (appended ℓ l len id) l₃ (part k (get_or ws id 0))) where
+  module _ {l₃ : List ℕ} (r : Raised ℓ (appended ℓ l len id) l₃ (part lane.first (get_or ws id 0))) where
     lives_now : lives l₃ ℓ ≡ len + 1
     lives_now =
-        r.rest (length_place ℓ) (λ p v b c x. omega (arith, a.line))
-        ∙ get_or-set_same (set l (live_place ℓ len) id) (length_place ℓ) (len + 1) 0 (simp length-set (omega (arith, a.long, a.line)))
+        r.rest (length_place ℓ) (λ p v b c x. omega (arith, lane.within))
+        ∙ get_or-set_same (set l (live_place ℓ len) id) (length_place ℓ) (len + 1) 0 (simp length-set (omega (arith, a.long, lane.within)))
 
     last_now : live l₃ ℓ len ≡ id
     last_now =
-        r.rest (live_place ℓ len) (λ p v b c x. omega (arith, room, a.line))
-        ∙ get_or-set_other (set l (live_place ℓ len) id) (length_place ℓ) (live_place ℓ len) (len + 1) 0 (λ x. omega (arith, a.line))
-        ∙ get_or-set_same l (live_place ℓ len) id 0 (omega (arith, a.long, a.line, room))
+        r.rest (live_place ℓ len) (λ p v b c x. omega (arith, room, lane.within))
+        ∙ get_or-set_other (set l (live_place ℓ len) id) (length_place ℓ) (live_place ℓ len) (len + 1) 0 (λ x. omega (arith, lane.within))
+        ∙ get_or-set_same l (live_place ℓ len) id 0 (omega (arith, a.long, lane.within, room))
 
     old_now : (j : ℕ) → j < len → live l₃ ℓ j ≡ live l ℓ j
     old_now j h =
-        r.rest (live_place ℓ j) (λ p v b c x. omega (arith, room, a.line)) ∙ other (live_place ℓ j) (λ x. omega arith) (λ x. omega (arith, a.line))
+        r.rest (live_place ℓ j) (λ p v b c x. omega (arith, room, lane.within)) ∙ other (live_place ℓ j) (λ x. omega arith) (λ x. omega (arith, lane.within))
 
     old_list : map (λ j. live l₃ ℓ j) (span 0 len) ≡ list_of l ℓ
     old_list = map_same (λ j. live l₃ ℓ j) (λ j. live l ℓ j) 0 len (λ j _ h. old_now j (omega arith)) ∙ ap (λ m. map (λ j. live l ℓ j) (span 0 m)) e
@@ -214,101 +204,102 @@ module _ {n ℓ k : ℕ} {ws l : List ℕ} (id : ℕ) (a : AddAsk n ℓ k ws l (
               ∙ map_next (λ j. live l₃ ℓ j) len
               ∙ ap₂ (λ x z. x ++ z ∷ []) old_list last_now;
           supports = λ p v h i.
-              let x : part k (get_or ws id 0) p v ≡ part (black_at ℓ) (word_of n id) p v = ap₂ (λ b w. part b w p v) a.black word in
+              let x : part lane.first (get_or ws id 0) p v ≡ part (black_at ℓ) (word_of n id) p v = ap₂ (λ b w. part b w p v) lane.black word in
               omega (arith, r.supports p v h i, support_still p v h i);
           rest = λ q h. r.rest q h.supports ∙ other q (h.list len room) h.count;
         }
 
 -- ---- what a scan lists, one after the other
 
-module _ (f : ℕ → List ℕ) (ok : ℕ → Bool) (a m : ℕ) {n ℓ k : ℕ} {ws l₀ l whole : List ℕ} (d : Adding n ℓ k ws l₀ l (scan f ok a m) whole) where
-  pub scan_ask : a < m → ok a ≡ true → AddAsk n ℓ k ws l (f a)
+module _ (f : ℕ → List ℕ) (ok : ℕ → Bool) (a m : ℕ) {lane : Lane} {ws l₀ l whole : List ℕ} (d : Adding lane ws l₀ l (scan f ok a m) whole) where
+  pub scan_ask : a < m → ok a ≡ true → AddAsk lane ws l (f a)
   scan_ask h e = addable_first (f a) (scan f ok (a + 1) m) (rw (scan_yes f ok m a h e) at d.ask)
 
-  pub scan_next : a < m → ok a ≡ true → {l' : List ℕ} → Added n ℓ l l' (f a) → Adding n ℓ k ws l₀ l' (scan f ok (a + 1) m) whole
+  pub scan_next : a < m → ok a ≡ true → {l' : List ℕ} → Added lane.len lane.number l l' (f a) → Adding lane ws l₀ l' (scan f ok (a + 1) m) whole
   scan_next h e r = adding_next (f a) (scan f ok (a + 1) m) (rw (scan_yes f ok m a h e) at d) r
 
-  pub scan_skip : a < m → ok a ≡ false → Adding n ℓ k ws l₀ l (scan f ok (a + 1) m) whole
+  pub scan_skip : a < m → ok a ≡ false → Adding lane ws l₀ l (scan f ok (a + 1) m) whole
   scan_skip h e = rw (scan_no f ok m a h e) at d
 
-  pub scan_done : m ≤ a → Added n ℓ l₀ l whole
+  pub scan_done : m ≤ a → Added lane.len lane.number l₀ l whole
   scan_done h = adding_end (rw (scan_end f ok m a h) at d)
 
 -- the starts of a subset that are on the side
-module _ {n : ℕ} {outside : Bool} {len : ℕ} {starts : Range ℕ} (s : ℕ) (r : StartsAre n len outside starts) (f : len ≡ size_in s) where
-  on : (i : ℕ) → starts.start ≤ i → i < starts.end → on_side n outside (i + size_in s + 2) ≡ true
+module _ (lane : Lane) {outside : Bool} {len : ℕ} {starts : Range ℕ} (s : ℕ) (r : StartsAre lane.len len outside starts) (f : len ≡ size_in s) where
+  on : (i : ℕ) → starts.start ≤ i → i < starts.end → on_side lane.len outside (i + size_in s + 2) ≡ true
   on i g h = rw f at ((r.exact i (omega (arith, r.within))).1 (g, h))
 
-  off : (i : ℕ) → i < n → ((starts.start ≤ i) × (i < starts.end) → ⊥) → on_side n outside (i + size_in s + 2) ≡ false
-  off i h d = rw (← f) (go (on_side n outside (i + len + 2)) (r.exact i h).0)
+  off : (i : ℕ) → i < lane.len → ((starts.start ≤ i) × (i < starts.end) → ⊥) → on_side lane.len outside (i + size_in s + 2) ≡ false
+  off i h d = rw (← f) (go (on_side lane.len outside (i + len + 2)) (r.exact i h).0)
     where
       go : (b : Bool) → (IsTrue b → (starts.start ≤ i) × (i < starts.end)) → b ≡ false
       go true e = absurd (d (e refl))
       go false e = refl
 
-  module _ {ℓ k : ℕ} {ws l₀ : List ℕ} where
-    pub starts_start : AddAsk n ℓ k ws l₀ (starts_from n outside s (size_in s) 0) →
-        Adding n ℓ k ws l₀ l₀ (starts_from n outside s (size_in s) starts.start) (starts_from n outside s (size_in s) 0)
+  module _ {ws l₀ : List ℕ} where
+    pub starts_start : AddAsk lane ws l₀ (starts_from lane.len outside s (size_in s) 0) →
+        Adding lane ws l₀ l₀ (starts_from lane.len outside s (size_in s) starts.start) (starts_from lane.len outside s (size_in s) 0)
     unfolding starts_from
-    starts_start a = rw (← scan_after _ _ n starts.start (λ i h j. off i j (λ q. omega (arith, q.0)))) (adding_start a)
+    starts_start a = rw (← scan_after _ _ lane.len starts.start (λ i h j. off i j (λ q. omega (arith, q.0)))) (adding_start a)
 
-    module _ {l whole : List ℕ} {a : ℕ} (d : Adding n ℓ k ws l₀ l (starts_from n outside s (size_in s) a) whole) where
-      pub starts_ask : starts.start ≤ a → a < starts.end → StartsAsk n s (size_in s) → AddAsk n ℓ k ws l ((s * 9 + a) ∷ []) × Known n (s * 9 + a)
+    module _ {l whole : List ℕ} {a : ℕ} (d : Adding lane ws l₀ l (starts_from lane.len outside s (size_in s) a) whole) where
+      pub starts_ask : starts.start ≤ a → a < starts.end → StartsAsk lane.len s (size_in s) → AddAsk lane ws l ((s * 9 + a) ∷ []) × Known lane.len (s * 9 + a)
       unfolding starts_from
       starts_ask g h q =
           let z = d.ask.size in
-          let i : a < n = omega (arith, r.within) in
+          let i : a < lane.len = omega (arith, r.within) in
           let u : (s * 9 + a) / 9 ≡ s = omega (arith, z.high) in
           let v : (s * 9 + a) % 9 ≡ a = omega (arith, z.high) in
-          (scan_ask _ _ a n d i (on a g h), record { within = omega (arith, q.among, z.high); starts = rw v i; digits = rw u q.digits })
+          (scan_ask _ _ a lane.len d i (on a g h), record { within = omega (arith, q.among, z.high); starts = rw v i; digits = rw u q.digits })
 
-      pub starts_next : starts.start ≤ a → a < starts.end → {l' : List ℕ} → Added n ℓ l l' ((s * 9 + a) ∷ []) →
-          Adding n ℓ k ws l₀ l' (starts_from n outside s (size_in s) (a + 1)) whole
+      pub starts_next : starts.start ≤ a → a < starts.end → {l' : List ℕ} → Added lane.len lane.number l l' ((s * 9 + a) ∷ []) →
+          Adding lane ws l₀ l' (starts_from lane.len outside s (size_in s) (a + 1)) whole
       unfolding starts_from
-      starts_next g h t = scan_next _ _ a n d (omega (arith, r.within)) (on a g h) t
+      starts_next g h t = scan_next _ _ a lane.len d (omega (arith, r.within)) (on a g h) t
 
-      pub starts_end : starts.end ≤ a → Added n ℓ l₀ l whole
+      pub starts_end : starts.end ≤ a → Added lane.len lane.number l₀ l whole
       unfolding starts_from
       starts_end h =
-          let z : (i : ℕ) → a ≤ i → i < n → on_side n outside (i + size_in s + 2) ≡ false = λ i j q. off i q (λ o. omega (arith, o.1)) in
-          let e = scan_none (λ i. (s * 9 + i) ∷ []) (λ i. on_side n outside (i + size_in s + 2)) n n a (omega arith) z in
+          let z : (i : ℕ) → a ≤ i → i < lane.len → on_side lane.len outside (i + size_in s + 2) ≡ false = λ i j q. off i q (λ o. omega (arith, o.1)) in
+          let e = scan_none (λ i. (s * 9 + i) ∷ []) (λ i. on_side lane.len outside (i + size_in s + 2)) lane.len lane.len a (omega arith) z in
           adding_end (rw e at d)
 
 -- those of one sum: the subsets from .. to
-pub sum_start : {n ℓ k : ℕ} {ws l : List ℕ} (outside : Bool) (want from : ℕ) → from ≡ from_sum want → AddAsk n ℓ k ws l (side_of n outside want) →
-    Adding n ℓ k ws l l (side_from n outside from (from_sum (want + 1))) (side_of n outside want)
+pub sum_start : {lane : Lane} {ws l : List ℕ} (outside : Bool) (want from : ℕ) → from ≡ from_sum want → AddAsk lane ws l (side_of lane.len outside want) →
+    Adding lane ws l l (side_from lane.len outside from (from_sum (want + 1))) (side_of lane.len outside want)
 unfolding side_of
 sum_start outside want from e a = rw e (adding_start a)
 
-module _ {n ℓ k : ℕ} {ws l₀ l whole : List ℕ} (outside : Bool) (want s to : ℕ) (d : Adding n ℓ k ws l₀ l (side_from n outside s (from_sum (want + 1))) whole)
-    (e : to ≡ from_sum (want + 1)) where
-  top : 1 * 2 ^ (n - 1) % 65536 ≡ 2 ^ (n - 1)
-  top = top_is n d.ask.size
+module _ {lane : Lane} {ws l₀ l whole : List ℕ} (outside : Bool) (want s to : ℕ)
+    (d : Adding lane ws l₀ l (side_from lane.len outside s (from_sum (want + 1))) whole) (e : to ≡ from_sum (want + 1)) where
+  top : 1 * 2 ^ (lane.len - 1) % 65536 ≡ 2 ^ (lane.len - 1)
+  top = top_is lane.len d.ask.size
 
-  fits : mask_in s < 1 * 2 ^ (n - 1) % 65536 → of_size n s ≡ true
+  fits : mask_in s < 1 * 2 ^ (lane.len - 1) % 65536 → of_size lane.len s ≡ true
   unfolding of_size
-  fits t = lt-ltb (mask_in s) (2 ^ (n - 1)) (rw top at t)
+  fits t = lt-ltb (mask_in s) (2 ^ (lane.len - 1)) (rw top at t)
 
   pub sum_low : s < to → want < 29 → s < 128
   sum_low h b = omega (arith, from_sum_most (want + 1) (omega arith))
 
-  pub sum_ask : s < to → want < 29 → mask_in s < 1 * 2 ^ (n - 1) % 65536 →
-      AddAsk n ℓ k ws l (starts_from n outside s (size_in s) 0) × StartsAsk n s (size_in s)
+  pub sum_ask : s < to → want < 29 → mask_in s < 1 * 2 ^ (lane.len - 1) % 65536 →
+      AddAsk lane ws l (starts_from lane.len outside s (size_in s) 0) × StartsAsk lane.len s (size_in s)
   unfolding side_from
   sum_ask h b t =
       let i = sum_low h b in
-      let q : mask_in s < 2 ^ (n - 1) = rw top at t in
-      (scan_ask _ _ s _ d (omega arith) (fits t), record { among = i; digits = q; few = subset_fits s i n d.ask.size q })
+      let q : mask_in s < 2 ^ (lane.len - 1) = rw top at t in
+      (scan_ask _ _ s _ d (omega arith) (fits t), record { among = i; digits = q; few = subset_fits s i lane.len d.ask.size q })
 
-  pub sum_next : s < to → mask_in s < 1 * 2 ^ (n - 1) % 65536 → {l' : List ℕ} → Added n ℓ l l' (starts_from n outside s (size_in s) 0) →
-      Adding n ℓ k ws l₀ l' (side_from n outside (s + 1) (from_sum (want + 1))) whole
+  pub sum_next : s < to → mask_in s < 1 * 2 ^ (lane.len - 1) % 65536 → {l' : List ℕ} →
+      Added lane.len lane.number l l' (starts_from lane.len outside s (size_in s) 0) →
+      Adding lane ws l₀ l' (side_from lane.len outside (s + 1) (from_sum (want + 1))) whole
   unfolding side_from
   sum_next h t r = scan_next _ _ s _ d (omega arith) (fits t) r
 
-  pub sum_skip : s < to → 1 * 2 ^ (n - 1) % 65536 ≤ mask_in s → Adding n ℓ k ws l₀ l (side_from n outside (s + 1) (from_sum (want + 1))) whole
+  pub sum_skip : s < to → 1 * 2 ^ (lane.len - 1) % 65536 ≤ mask_in s → Adding lane ws l₀ l (side_from lane.len outside (s + 1) (from_sum (want + 1))) whole
   unfolding side_from of_size
-  sum_skip h t = scan_skip _ _ s _ d (omega arith) (le-ltb (mask_in s) (2 ^ (n - 1)) (rw top at t))
+  sum_skip h t = scan_skip _ _ s _ d (omega arith) (le-ltb (mask_in s) (2 ^ (lane.len - 1)) (rw top at t))
 
-  pub sum_end : to ≤ s → Added n ℓ l₀ l whole
+  pub sum_end : to ≤ s → Added lane.len lane.number l₀ l whole
   unfolding side_from
   sum_end h = scan_done _ _ s _ d (omega arith)

@@ -1,5 +1,5 @@
 -- What the proofs of several functions use.
-pub mod AddLaws
+mod AddLaws
 pub mod LineLaws
 mod NumberFacts
 mod RaiseLaws

@@ -18,7 +18,7 @@ use Rattle.rules.specs.Size.{Size}
 use Rattle.rules.specs.Check.{max_target}
 use Rattle.rules.proofs.SizeLaws.{target_most}
 use Rattle.lane.specs.declared.Lane.{Lane}
-use Rattle.lane.specs.Lanes.{row_lane, column_lane}
+use Rattle.lane.specs.Rows.{RowLane, ColumnLane}
 use Rattle.puzzle.specs.declared.Puzzle.{Puzzle}
 use Rattle.words.specs.Word.{arrangement_of, word_of, part, Words}
 use Rattle.fresh.specs.Fresh.{Fresh}
@@ -63,21 +63,23 @@ listable p a =
 
 -- ---- one line: the inside ones, then the outside ones
 
-module _ {n ℓ k : ℕ} {ws l : List ℕ} (t m : ℕ) (e : m ≡ max_target n) (a : AddAsk n ℓ k ws l (numbers_for n t)) where
+module _ {lane : Lane} {ws l : List ℕ} (t m : ℕ) (e : m ≡ max_target lane.len) (a : AddAsk lane ws l (numbers_for lane.len t)) where
   most : m ≤ 28
-  most = omega (arith, e, target_most n a.size)
+  most = omega (arith, e, target_most lane.len a.size)
 
-  parts : numbers_for n t ≡ side_of n false t ++ side_of n true (m - t)
+  parts : numbers_for lane.len t ≡ side_of lane.len false t ++ side_of lane.len true (m - t)
   unfolding numbers_for
   parts = rw e
 
-  pub inside_ask : t ≤ max_target n → AddAsk n ℓ k ws l (side_of n false t) × (t < 29)
-  inside_ask h = (addable_first _ (side_of n true (m - t)) (rw parts at a), omega (arith, most, e))
+  pub inside_ask : t ≤ max_target lane.len → AddAsk lane ws l (side_of lane.len false t) × (t < 29)
+  inside_ask h = (addable_first _ (side_of lane.len true (m - t)) (rw parts at a), omega (arith, most, e))
 
-  pub outside_ask : {l₁ : List ℕ} → Added n ℓ l l₁ (side_of n false t) → AddAsk n ℓ k ws l₁ (side_of n true (m - t)) × (m - t < 29)
-  outside_ask r = (addable_after (side_of n false t) _ (rw parts at a) r, omega (arith, most))
+  pub outside_ask : {l₁ : List ℕ} → Added lane.len lane.number l l₁ (side_of lane.len false t) →
+      AddAsk lane ws l₁ (side_of lane.len true (m - t)) × (m - t < 29)
+  outside_ask r = (addable_after (side_of lane.len false t) _ (rw parts at a) r, omega (arith, most))
 
-  pub line_added : {l₁ l₂ : List ℕ} → Added n ℓ l l₁ (side_of n false t) → Added n ℓ l₁ l₂ (side_of n true (m - t)) → Added n ℓ l l₂ (numbers_for n t)
+  pub line_added : {l₁ l₂ : List ℕ} → Added lane.len lane.number l l₁ (side_of lane.len false t) →
+      Added lane.len lane.number l₁ l₂ (side_of lane.len true (m - t)) → Added lane.len lane.number l l₂ (numbers_for lane.len t)
   line_added r s = rw parts (added_both r s)
 
 -- ---- a line that lists nothing yet
@@ -150,14 +152,6 @@ module _ (ℓ : ℕ) (l l' : List ℕ) (h : ℓ < 18) (e : (q : ℕ) → lengths
 fresh_unlisted : (n ℓ : ℕ) (l : List ℕ) → Fresh n l → Unlisted ℓ l
 fresh_unlisted n ℓ l f = record { none = f.arcs (length_place ℓ) (omega arith); supports = λ p v i k. f.arcs (support_place (ℓ * 9 + p) v) (omega arith) }
 
-black_row : (ℓ : ℕ) → ℓ < 9 → 8 ≡ black_at ℓ
-unfolding black_at
-black_row ℓ h = rw (lt-ltb ℓ 9 h)
-
-black_column : (ℓ : ℕ) → 9 ≤ ℓ → 10 ≡ black_at ℓ
-unfolding black_at
-black_column ℓ h = rw (le-ltb ℓ 9 h)
-
 -- the first k rows and the first k columns list the arrangements of their targets, and nothing else moved
 pub record ListedTo (n k : ℕ) (rows columns l l' : List ℕ) : Type 0 where
   pub size : length l' ≡ length l
@@ -167,15 +161,14 @@ pub record ListedTo (n k : ℕ) (rows columns l l' : List ℕ) : Type 0 where
 
 module _ {n : ℕ} {ws rows columns l : List ℕ} (a : Listable n ws rows columns l) where
   -- a line that lists nothing can list the arrangements of its target
-  addable : {l' : List ℕ} (ℓ k t : ℕ) → ℓ < 18 → k ≡ black_at ℓ → length l' ≡ length l → t ≤ max_target n → Unlisted ℓ l' → AddAsk n ℓ k ws l' (numbers_for n t)
-  addable ℓ k t h b long m u =
+  addable : {l' : List ℕ} (lane : Lane) (t : ℕ) → lane.len ≡ n → length l' ≡ length l → t ≤ max_target n → Unlisted lane.number l' →
+      AddAsk lane ws l' (numbers_for lane.len t)
+  addable lane t e long m u =
       record {
-        size = a.size;
-        words = a.words;
-        line = h;
-        black = b;
+        size = rw e a.size;
+        words = rw e a.words;
         long = long ∙ a.fresh.size;
-        room = omega (arith, u.none, numbers_few n t a.size m);
+        room = rw e (omega (arith, u.none, numbers_few n t a.size m));
         low = λ p v x y. omega (arith, u.supports p v x y);
       }
 
@@ -195,16 +188,15 @@ module _ {n : ℕ} {ws rows columns l : List ℕ} (a : Listable n ws rows column
         (λ q _ f. d.rest q (λ j x. (f j (omega (arith, low)) (λ y. omega arith), f (9 + j) (omega (arith, low)) (λ y. omega (arith, low)))))
         (fresh_unlisted n i l a.fresh)
 
-    pub row_ask : {lane : Lane} (t : ℕ) → lane ≡ row_lane n i → t ≡ r →
-        AddAsk lane.len lane.number lane.first ws l₁ (numbers_for lane.len t) × (t ≤ max_target lane.len)
-    row_ask t e f =
+    pub row_ask : {lane : Lane} (t : ℕ) → RowLane n i lane → t ≡ r → AddAsk lane ws l₁ (numbers_for lane.len t) × (t ≤ max_target lane.len)
+    row_ask {lane} t e f =
         let m : t ≤ max_target n = omega (arith, a.rows_within i h) in
-        rw e (addable i 8 t (omega (arith, low)) (black_row i low) d.size m row_unlisted, m)
+        (addable lane t e.4 d.size m (rw e.0 row_unlisted), rw e.4 m)
 
     -- and then the column
-    module _ {l₂ : List ℕ} {row : Lane} (t : ℕ) (e : row ≡ row_lane n i) (f : t ≡ r) (s : Added row.len row.number l₁ l₂ (numbers_for row.len t)) where
+    module _ {l₂ : List ℕ} (row : Lane) (t : ℕ) (e : RowLane n i row) (f : t ≡ r) (s : Added row.len row.number l₁ l₂ (numbers_for row.len t)) where
       row_added : Added n i l₁ l₂ (numbers_for n r)
-      row_added = rw (e, f) at s
+      row_added = rw (e.0, e.4, f) at s
 
       column_unlisted : Unlisted (9 + i) l₂
       column_unlisted =
@@ -214,15 +206,14 @@ module _ {n : ℕ} {ws rows columns l : List ℕ} (a : Listable n ws rows column
           ∙ d.rest q (λ j x. (f j (omega (arith, low)) (λ y. omega (arith, low)), f (9 + j) (omega (arith, low)) (λ y. omega arith))))
           (fresh_unlisted n (9 + i) l a.fresh)
 
-      pub column_ask : {lane : Lane} (u : ℕ) → lane ≡ column_lane n i → u ≡ c →
-          AddAsk lane.len lane.number lane.first ws l₂ (numbers_for lane.len u) × (u ≤ max_target lane.len)
-      column_ask u g k =
+      pub column_ask : {lane : Lane} (u : ℕ) → ColumnLane n i lane → u ≡ c → AddAsk lane ws l₂ (numbers_for lane.len u) × (u ≤ max_target lane.len)
+      column_ask {lane} u g k =
           let m : u ≤ max_target n = omega (arith, a.columns_within i h) in
-          rw g (addable (9 + i) 10 u (omega (arith, low)) (black_column (9 + i) (omega arith)) (row_added.size ∙ d.size) m column_unlisted, m)
+          (addable lane u g.4 (row_added.size ∙ d.size) m (rw g.0 column_unlisted), rw g.4 m)
 
-      pub listed_next : {l₃ : List ℕ} {lane : Lane} (u : ℕ) → lane ≡ column_lane n i → u ≡ c →
+      pub listed_next : {l₃ : List ℕ} (lane : Lane) (u : ℕ) → ColumnLane n i lane → u ≡ c →
           Added lane.len lane.number l₂ l₃ (numbers_for lane.len u) → ListedTo n (i + 1) rows columns l l₃
-      listed_next {l₃} u g k z =
+      listed_next {l₃} lane u g k z =
           record {
             size = w.size ∙ row_added.size ∙ d.size;
             row = λ j x. rows_now j x (ℕ_discrete j i);
@@ -231,7 +222,7 @@ module _ {n : ℕ} {ws rows columns l : List ℕ} (a : Listable n ws rows column
           }
         where
           w : Added n (9 + i) l₂ l₃ (numbers_for n c)
-          w = rw (g, k) at z
+          w = rw (g.0, g.4, k) at z
 
           row_kept : (j : ℕ) → j < 9 → {t : ℕ} → Lists n j t l₂ → Lists n j t l₃
           row_kept j x y = lists_kept j l₂ l₃ (omega arith) (λ q _ f. w.rest q (f (9 + i) (omega (arith, low)) (λ v. omega arith))) y

@@ -1,6 +1,6 @@
 -- Raising the supports of a line, one after the other. Assumes nothing.
-use Prim.Native.Nat.{ℕ, suc, ◌+◌, ◌-◌, ◌*◌, ◌/◌, ◌%◌, ◌^◌, min, ◌≤◌, ◌<◌}
-use mathlib.Core.Path.{◌≡◌, refl, sym, ap, ◌∙◌}
+use Prim.Native.Nat.{ℕ, suc, ◌+◌, ◌-◌, ◌*◌, ◌^◌, min, ◌≤◌, ◌<◌}
+use mathlib.Core.Path.{◌≡◌, refl, sym, ◌∙◌}
 use mathlib.Core.List.{List}
 use native.Mathlib.Omega.{arith}
 use native.Mathlib.Nat.{lt_of_lt_of_le}
@@ -8,18 +8,19 @@ use native.Mathlib.Decide.{ℕ_discrete, dec_lt}
 use lib.ListN.{set, length-set}
 use lib.Seq.{get_or-set_same, get_or-set_other}
 use lib.Pow.{pow_mono, shr_lt}
-use borrow.Author.Tests.{lt-ltb, le-ltb}
 use Rattle.bits.specs.Bit.{bit}
 use Rattle.bits.proofs.BitLaws.{bit_lt, bit_none}
 use Rattle.value.specs.Mask.{LowestOf}
 use Rattle.value.proofs.LowestLaws.{rest_without, rest_keeps}
 use Rattle.bits.specs.Sum.{same}
 use Rattle.bits.proofs.SumLaws.{same_yes, same_no}
+use Rattle.lane.specs.declared.Lane.{Lane}
+use Rattle.arcs.proofs.KillLaws.{black_low, black_high}
 use Rattle.words.specs.Word.{set_of, inner_of, first_of, second_of, part}
 use Rattle.words.proofs.PatternLaws.{part_digit, part_first, part_second, part_other, first_in, second_in}
 use Rattle.arcs.specs.Arc.{support}
 use Rattle.queue_state.specs.Layout.{support_place}
-use Rattle.listing.specs.Listing.{Raised, one_at, digits_at, inner_to, RaiseAsk, WordAsk}
+use Rattle.listing.specs.Listing.{Raised, one_at, digits_at, inner_at, RaiseAsk, WordAsk}
 
 same_lt : (a b : ℕ) → same a b < 2
 same_lt a b = elim (ℕ_discrete a b) [ yes e ↦ omega (arith, same_yes a b e) | no e ↦ omega (arith, same_no a b e) ]
@@ -118,74 +119,99 @@ digits_end {set = set} {rest = rest} d e =
       rest = d.raised.rest;
     }
 
--- ---- the inner places of a word
+-- ---- the digits of a word at its inner places
 
-module _ (ℓ p w : ℕ) {l₀ l : List ℕ} (r : Raised ℓ l₀ l (inner_to p w)) where
-  pub inner_can : (v : ℕ) → RaiseAsk ℓ p v l₀ → RaiseAsk ℓ p v l
-  unfolding inner_to
-  inner_can v a =
-      let e : inner_to p w p v ≡ 0 = rw (le-ltb p p (omega arith)) in
+-- a number of m bits has none from m on
+bit_past : (v m x : ℕ) → x < 2 ^ m → m ≤ v → bit v x ≡ 0
+unfolding bit
+bit_past v m x h k = let e : 0 + v ≡ v = omega arith in omega (arith, shr_lt {n = x} 0 v (rw e (lt_of_lt_of_le h (pow_mono k))))
+
+pub record Inner (ℓ w rest : ℕ) (l₀ l : List ℕ) : Type 0 where
+  pub can : (p v : ℕ) → p < 9 → v < 16 → RaiseAsk ℓ p v l₀
+  pub within : (p : ℕ) → bit p rest ≤ bit p (inner_of w)
+  pub raised : Raised ℓ l₀ l (λ p v. min (bit v (set_of w)) (bit p (inner_of w) - bit p rest))
+
+module _ {ℓ w rest p rest' : ℕ} {l₀ l : List ℕ} (d : Inner ℓ w rest l₀ l) (b : LowestOf rest p rest') where
+  among : p < 9
+  among =
+      elim (dec_lt p 9) [
+        | yes h ↦ h
+        | no h ↦ absurd (omega (arith, b.here, d.within p, bit_past p 9 (inner_of w) (omega arith) (omega arith)))
+      ]
+
+  pub inner_can : (v : ℕ) → v < 16 → RaiseAsk ℓ p v l
+  inner_can v h =
+      let a = d.can p v among h in
       record {
-        long = r.size ∙ a.long;
+        long = d.raised.size ∙ a.long;
         line = a.line;
         place = a.place;
         value = a.value;
-        low = omega (arith, r.supports p v a.place a.value, a.low);
+        low = omega (arith, a.low, d.raised.supports p v among h, b.here, bit_lt p (inner_of w));
       }
 
-  pub inner_yes : {l' : List ℕ} (set : ℕ) → set ≡ set_of w → inner_of w / 2 ^ p % 2 ≡ 1 → Raised ℓ l l' (digits_at p set) → Raised ℓ l₀ l' (inner_to (p + 1) w)
-  unfolding inner_to digits_at bit
-  inner_yes set e i s = raised_both _ r s (λ q v h k. sums q v (dec_lt q p) (ℕ_discrete q p))
-    where
-      sums : (q v : ℕ) → Dec (q < p) → Dec (q ≡ p) → inner_to (p + 1) w q v ≡ inner_to p w q v + min (same q p) (bit v set)
-      sums q v (yes a) d = rw (lt-ltb q (p + 1) (omega arith), lt-ltb q p a) (omega (arith, same_no q p (λ e. omega arith)))
-      sums q v (no a) (yes d) =
-          let b : bit q (inner_of w) ≡ 1 = rw d i in
-          rw (lt-ltb q (p + 1) (omega arith), le-ltb q p (omega arith), e) (omega (arith, same_yes q p d, bit_lt v (set_of w)))
-      sums q v (no a) (no d) = rw (le-ltb q (p + 1) (omega arith), le-ltb q p (omega arith)) (omega (arith, same_no q p d))
-
-  pub inner_no : (inner_of w / 2 ^ p % 2 ≡ 1 → ⊥) → Raised ℓ l₀ l (inner_to (p + 1) w)
-  unfolding inner_to bit
-  inner_no i =
+  pub inner_next : {l' : List ℕ} (set : ℕ) → set ≡ set_of w → Raised ℓ l l' (digits_at p set) → Inner ℓ w rest' l₀ l'
+  unfolding digits_at
+  inner_next {l'} set e r =
       record {
-        size = r.size;
-        supports = λ q v h k. r.supports q v h k ∙ ap (λ x. support l₀ (ℓ * 9 + q) v + x) (sym (sums q v (dec_lt q p) (ℕ_discrete q p)));
-        rest = r.rest;
+        can = d.can;
+        within = λ q. within q (ℕ_discrete q p);
+        raised = raised_both _ d.raised r (λ q v h k. sums q v (ℕ_discrete q p));
       }
     where
-      sums : (q v : ℕ) → Dec (q < p) → Dec (q ≡ p) → inner_to (p + 1) w q v ≡ inner_to p w q v
-      sums q v (yes a) d = rw (lt-ltb q (p + 1) (omega arith), lt-ltb q p a)
-      sums q v (no a) (yes d) =
-          let b : bit q (inner_of w) ≡ 0 = rw d (omega (arith, bit_lt p (inner_of w))) in
-          rw (lt-ltb q (p + 1) (omega arith), le-ltb q p (omega arith)) (omega arith)
-      sums q v (no a) (no d) = rw (le-ltb q (p + 1) (omega arith), le-ltb q p (omega arith))
+      within : (q : ℕ) → Dec (q ≡ p) → bit q rest' ≤ bit q (inner_of w)
+      within q (yes f) = rw f (omega (arith, rest_without b))
+      within q (no f) = omega (arith, rest_keeps b q f, d.within q)
 
-pub inner_start : (ℓ w : ℕ) (l : List ℕ) → Raised ℓ l l (inner_to 0 w)
-unfolding inner_to
-inner_start ℓ w l = raised_none ℓ l _ (λ p v h k. rw (le-ltb p 0 (omega arith)))
+      sums : (q v : ℕ) → Dec (q ≡ p) →
+          min (bit v (set_of w)) (bit q (inner_of w) - bit q rest') ≡ min (bit v (set_of w)) (bit q (inner_of w) - bit q rest) + min (same q p) (bit v set)
+      sums q v (yes f) =
+          let a : bit q rest' ≡ 0 = rw f (rest_without b) in
+          let g : bit q rest ≡ 1 = rw f b.here in
+          rw e (omega (arith, same_yes q p f, d.within q, bit_lt q (inner_of w), bit_lt v (set_of w)))
+      sums q v (no f) = rw (rest_keeps b q f) (omega (arith, same_no q p f))
+
+pub inner_end : {ℓ w rest : ℕ} {l₀ l : List ℕ} → Inner ℓ w rest l₀ l → rest ≡ 0 → Raised ℓ l₀ l (inner_at w)
+inner_end {w = w} {rest = rest} d e =
+    record {
+      size = d.raised.size;
+      supports = λ p v h k. let z : bit p rest ≡ 0 = rw e (bit_none p) in rw z at (d.raised.supports p v h k) ∙ omega arith;
+      rest = d.raised.rest;
+    }
 
 -- ---- the pattern of a word
 
-bit_past : (v x : ℕ) → x < 2 ^ 8 → 8 ≤ v → bit v x ≡ 0
-unfolding bit
-bit_past v x h k = let e : 0 + v ≡ v = omega arith in omega (arith, shr_lt {n = x} 0 v (rw e (lt_of_lt_of_le h (pow_mono k))))
-
 -- x and y are the places of its blacks
-module _ {n ℓ k w : ℕ} {l : List ℕ} (a : WordAsk n ℓ k w l) (x y : ℕ) (ex : x ≡ first_of w) (ey : y ≡ second_of w) where
+module _ {lane : Lane} {w : ℕ} {l : List ℕ} (a : WordAsk lane w l) (x y : ℕ) (ex : x ≡ first_of w) (ey : y ≡ second_of w) where
+  abbrev n : ℕ
+  n = lane.len
+
+  abbrev ℓ : ℕ
+  ℓ = lane.number
+
+  abbrev k : ℕ
+  k = lane.first
+
+  black_from : 8 ≤ k
+  black_from = omega (arith, lane.black, black_low ℓ)
+
+  black_to : k < 15
+  black_to = omega (arith, lane.black, black_high ℓ)
+
   first_fits : x < 9
-  first_fits = omega (arith, first_in n k w a.shaped a.first, a.size.high)
+  first_fits = omega (arith, first_in n k w a.shaped black_from, a.size.high)
 
   second_fits : y < 9
-  second_fits = omega (arith, second_in n k w a.shaped a.first, a.size.high)
+  second_fits = omega (arith, second_in n k w a.shaped black_from, a.size.high)
 
   pub word_first : RaiseAsk ℓ x k l
   word_first =
       record {
         long = a.long;
-        line = a.line;
+        line = lane.within;
         place = first_fits;
-        value = omega (arith, a.second);
-        low = omega (arith, a.low x k first_fits (omega (arith, a.second)));
+        value = omega (arith, black_to);
+        low = omega (arith, a.low x k first_fits (omega (arith, black_to)));
       }
 
   pub word_second : {l₁ : List ℕ} → Raised ℓ l l₁ (one_at x k) → RaiseAsk ℓ y (k + 1) l₁
@@ -193,33 +219,33 @@ module _ {n ℓ k w : ℕ} {l : List ℕ} (a : WordAsk n ℓ k w l) (x y : ℕ) 
   word_second r =
       record {
         long = r.size ∙ a.long;
-        line = a.line;
+        line = lane.within;
         place = second_fits;
-        value = omega (arith, a.second);
+        value = omega (arith, black_to);
         low =
             omega (
               arith,
-              r.supports y (k + 1) second_fits (omega (arith, a.second)),
-              a.low y (k + 1) second_fits (omega (arith, a.second)),
-              same_no (y * 16 + (k + 1)) (x * 16 + k) (λ e. omega (arith, a.second)),
+              r.supports y (k + 1) second_fits (omega (arith, black_to)),
+              a.low y (k + 1) second_fits (omega (arith, black_to)),
+              same_no (y * 16 + (k + 1)) (x * 16 + k) (λ e. omega (arith, black_to)),
             );
       }
 
-  pub word_inner : {l₁ l₂ : List ℕ} → Raised ℓ l l₁ (one_at x k) → Raised ℓ l₁ l₂ (one_at y (k + 1)) → (p v : ℕ) → p < n → v < 16 → RaiseAsk ℓ p v l₂
+  pub word_inner : {l₁ l₂ : List ℕ} → Raised ℓ l l₁ (one_at x k) → Raised ℓ l₁ l₂ (one_at y (k + 1)) → (p v : ℕ) → p < 9 → v < 16 → RaiseAsk ℓ p v l₂
   unfolding one_at
-  word_inner r s p v h b =
-      let g : p < 9 = omega (arith, a.size.high) in
+  word_inner r s p v g b =
       record {
         long = s.size ∙ r.size ∙ a.long;
-        line = a.line;
+        line = lane.within;
         place = g;
         value = b;
         low =
             omega (arith, r.supports p v g b, s.supports p v g b, a.low p v g b, same_lt (p * 16 + v) (x * 16 + k), same_lt (p * 16 + v) (y * 16 + (k + 1)));
       }
 
-  pub word_raised : {l₁ l₂ l₃ : List ℕ} → Raised ℓ l l₁ (one_at x k) → Raised ℓ l₁ l₂ (one_at y (k + 1)) → Raised ℓ l₂ l₃ (inner_to n w) → Raised ℓ l l₃ (part k w)
-  unfolding one_at inner_to
+  pub word_raised : {l₁ l₂ l₃ : List ℕ} → Raised ℓ l l₁ (one_at x k) → Raised ℓ l₁ l₂ (one_at y (k + 1)) → Raised ℓ l₂ l₃ (inner_at w) →
+      Raised ℓ l l₃ (part k w)
+  unfolding one_at
   word_raised r s t =
       raised_both (part k w) (raised_both (λ p v. one_at x k p v + one_at y (k + 1) p v) r s (λ p v _ _. refl)) t
       (λ p v h b. rw (ex, ey) (sums p v h b (dec_lt v 8)))
@@ -227,32 +253,27 @@ module _ {n ℓ k w : ℕ} {l : List ℕ} (a : WordAsk n ℓ k w l) (x y : ℕ) 
       blacks : (p v : ℕ) → p < 9 → 8 ≤ v → v < 16 → Dec (v ≡ k) → Dec (v ≡ suc k) →
           part k w p v ≡ same (p * 16 + v) (first_of w * 16 + k) + same (p * 16 + v) (second_of w * 16 + (k + 1))
       blacks p v h c b (yes d) e =
-          let q : part k w p v ≡ same (first_of w) p = rw d (part_first k w p a.first) in
-          omega (arith, same_place (first_of w) p k v d, same_no (p * 16 + v) (second_of w * 16 + (k + 1)) (λ q. omega (arith, a.second)))
+          let q : part k w p v ≡ same (first_of w) p = rw d (part_first k w p black_from) in
+          omega (arith, same_place (first_of w) p k v d, same_no (p * 16 + v) (second_of w * 16 + (k + 1)) (λ q. omega (arith, black_to)))
       blacks p v h c b (no d) (yes e) =
-          let q : part k w p v ≡ same (second_of w) p = rw e (part_second k w p a.first) in
-          omega (arith, same_place (second_of w) p (k + 1) v (omega arith), same_no (p * 16 + v) (first_of w * 16 + k) (λ q. omega (arith, a.second)))
+          let q : part k w p v ≡ same (second_of w) p = rw e (part_second k w p black_from) in
+          omega (arith, same_place (second_of w) p (k + 1) v (omega arith), same_no (p * 16 + v) (first_of w * 16 + k) (λ q. omega (arith, black_to)))
       blacks p v h c b (no d) (no e) =
           part_other k w p v c d e
           ∙ omega (
             arith,
-            same_no (p * 16 + v) (second_of w * 16 + (k + 1)) (λ q. e (omega (arith, a.second))),
-            same_no (p * 16 + v) (first_of w * 16 + k) (λ q. d (omega (arith, a.second))),
+            same_no (p * 16 + v) (second_of w * 16 + (k + 1)) (λ q. e (omega (arith, black_to))),
+            same_no (p * 16 + v) (first_of w * 16 + k) (λ q. d (omega (arith, black_to))),
           )
 
-      inner : (p v : ℕ) → p < 9 → Dec (p < n) → inner_to n w p v ≡ min (bit v (set_of w)) (bit p (inner_of w))
-      inner p v h (yes c) = rw (lt-ltb p n c)
-      inner p v h (no c) = rw (le-ltb p n (omega arith)) (omega (arith, a.shaped.past p (omega arith) h))
-
-      sums : (p v : ℕ) → p < 9 → v < 16 → Dec (v < 8) → part k w p v ≡ one_at (first_of w) k p v + one_at (second_of w) (k + 1) p v + inner_to n w p v
+      sums : (p v : ℕ) → p < 9 → v < 16 → Dec (v < 8) → part k w p v ≡ one_at (first_of w) k p v + one_at (second_of w) (k + 1) p v + inner_at w p v
       sums p v h b (yes c) =
           part_digit k w p v c
           ∙ omega (
             arith,
-            inner p v h (dec_lt p n),
-            same_no (p * 16 + v) (first_of w * 16 + k) (λ q. omega (arith, a.first, a.second)),
-            same_no (p * 16 + v) (second_of w * 16 + (k + 1)) (λ q. omega (arith, a.first, a.second)),
+            same_no (p * 16 + v) (first_of w * 16 + k) (λ q. omega (arith, black_from, black_to)),
+            same_no (p * 16 + v) (second_of w * 16 + (k + 1)) (λ q. omega (arith, black_from, black_to)),
           )
       sums p v h b (no c) =
           blacks p v h (omega arith) b (ℕ_discrete v k) (ℕ_discrete v (suc k))
-          ∙ omega (arith, inner p v h (dec_lt p n), bit_past v (set_of w) (omega arith) (omega arith))
+          ∙ omega (arith, bit_past v 8 (set_of w) (omega arith) (omega arith))

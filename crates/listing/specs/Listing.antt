@@ -6,6 +6,7 @@ use Rattle.bits.specs.Bit.{bit}
 use Rattle.bits.specs.Sum.{sum_over, same}
 use Rattle.rules.specs.Size.{Size}
 use Rattle.table.specs.Closed.{arrangements}
+use Rattle.lane.specs.declared.Lane.{Lane}
 use Rattle.words.specs.Word.{Known, arrangement_of, word_of, mask_in, set_of, inner_of, part, Shaped, Words}
 use Rattle.arcs.specs.Arc.{lives, live, support}
 use Rattle.table.specs.Lines.{black_at, LineOf}
@@ -38,9 +39,9 @@ one_at p v q w = same (q * 16 + w) (p * 16 + v)
 unfoldable pub digits_at : ℕ → ℕ → ℕ → ℕ → ℕ
 digits_at p set q w = min (same q p) (bit w set)
 
--- By the digits of a word at its inner places below m.
-unfoldable pub inner_to : ℕ → ℕ → ℕ → ℕ → ℕ
-inner_to m w q v = cond (ltb q m) (min (bit v (set_of w)) (bit q (inner_of w))) 0
+-- By the digits of a word at its inner places.
+abbrev pub inner_at : ℕ → ℕ → ℕ → ℕ
+inner_at w q v = min (bit v (set_of w)) (bit q (inner_of w))
 
 -- The support of the value v at place p of line ℓ can rise.
 pub record RaiseAsk (ℓ p v : ℕ) (l : List ℕ) : Type 0 where
@@ -50,15 +51,12 @@ pub record RaiseAsk (ℓ p v : ℕ) (l : List ℕ) : Type 0 where
   pub value : v < 16
   pub low : support l (ℓ * 9 + p) v < 65535
 
--- The pattern of the word w can be added to the supports of line ℓ, whose first black is k.
-pub record WordAsk (n ℓ k w : ℕ) (l : List ℕ) : Type 0 where
-  pub size : Size n
-  pub shaped : Shaped n w
-  pub line : ℓ < 18
-  pub first : 8 ≤ k
-  pub second : k < 15
+-- The pattern of the word w can be added to the supports of a line.
+pub record WordAsk (lane : Lane) (w : ℕ) (l : List ℕ) : Type 0 where
+  pub size : Size lane.len
+  pub shaped : Shaped lane.len w
   pub long : length l ≡ slab_size
-  pub low : (p v : ℕ) → p < 9 → v < 16 → support l (ℓ * 9 + p) v ≤ per_line
+  pub low : (p v : ℕ) → p < 9 → v < 16 → support l (lane.number * 9 + p) v ≤ per_line
 
 -- ---- arrangements
 
@@ -70,22 +68,20 @@ pub record Added (n ℓ : ℕ) (l l' ids : List ℕ) : Type 0 where
       support l' (ℓ * 9 + p) v ≡ support l (ℓ * 9 + p) v + tally.sum (map (λ id. part (black_at ℓ) (word_of n id) p v) ids)
   pub rest : (q : ℕ) → Elsewhere ℓ q → get_or l' q 0 ≡ get_or l q 0
 
--- They can be: there is room for them.
-pub record AddAsk (n ℓ k : ℕ) (ws l ids : List ℕ) : Type 0 where
-  pub size : Size n
-  pub words : Words n ws
-  pub line : ℓ < 18
-  pub black : k ≡ black_at ℓ
+-- They can be added to a line: there is room for them.
+pub record AddAsk (lane : Lane) (ws l ids : List ℕ) : Type 0 where
+  pub size : Size lane.len
+  pub words : Words lane.len ws
   pub long : length l ≡ slab_size
-  pub room : lives l ℓ + length ids ≤ per_line
-  pub low : (p v : ℕ) → p < 9 → v < 16 → support l (ℓ * 9 + p) v ≤ lives l ℓ
+  pub room : lives l lane.number + length ids ≤ per_line
+  pub low : (p v : ℕ) → p < 9 → v < 16 → support l (lane.number * 9 + p) v ≤ lives l lane.number
 
 -- Those of one line, one after the other: what is added so far and the rest are the whole.
-pub record Adding (n ℓ k : ℕ) (ws l₀ l rest whole : List ℕ) : Type 0 where
+pub record Adding (lane : Lane) (ws l₀ l rest whole : List ℕ) : Type 0 where
   pub done : List ℕ
-  pub added : Added n ℓ l₀ l done
+  pub added : Added lane.len lane.number l₀ l done
   pub is : done ++ rest ≡ whole
-  pub ask : AddAsk n ℓ k ws l rest
+  pub ask : AddAsk lane ws l rest
 
 -- Subset s has len digits, all of size n.
 pub record StartsAsk (n s len : ℕ) : Type 0 where

@@ -6,7 +6,7 @@ ghost use Rattle.rules.specs.Check.{max_target};
 ghost use Rattle.words.specs.Word.{size_in, part, Known};
 ghost use Rattle.listing.specs.Numbers.{starts_from, side_of, numbers_for};
 ghost use Rattle.listing.specs.Sides.{is_outside, StartsAre};
-ghost use Rattle.listing.specs.Listing.{Raised, one_at, digits_at, inner_to, RaiseAsk, WordAsk, Added, AddAsk, StartsAsk, OpenAsk, LinesListed};
+ghost use Rattle.listing.specs.Listing.{Raised, one_at, digits_at, inner_at, RaiseAsk, WordAsk, Added, AddAsk, StartsAsk, OpenAsk, LinesListed};
 
 use grid_size::GridSize;
 use lane::Lane;
@@ -14,7 +14,7 @@ use puzzle::Puzzle;
 use queue_state::Slab;
 use std::ops::Range;
 use value::Bits;
-use words::{Subset, first_of, from_sum, second_of, set_of};
+use words::{Subset, first_of, from_sum, inner_of, second_of, set_of};
 
 // One more arrangement has the value v at place p of a line.
 fn raise_support(st: &mut [u16], line: usize, p: usize, v: usize)
@@ -35,32 +35,29 @@ fn add_digits(st: &mut [u16], line: usize, p: usize, set: u16)
 }
 
 // One more arrangement has the digits of a word at its inner places.
-fn add_inner(st: &mut [u16], n: usize, line: usize, w: u32)
-    requires { (n ≤ 9) × ((p v : ℕ) → p < n → v < 16 → RaiseAsk line p v st.old) }
-    ensures { Raised line st.old st.new (inner_to n w) }
+fn add_inner(st: &mut [u16], line: usize, w: u32)
+    requires { (p v : ℕ) → p < 9 → v < 16 → RaiseAsk line p v st.old }
+    ensures { Raised line st.old st.new (inner_at w) }
 {
-    let inner = w / 256 % 512;
     let set = set_of(w);
-    for p in 0..n {
-        if (inner >> p) % 2 == 1 {
-            add_digits(st, line, p, set);
-        }
+    for p in (Bits { rest: inner_of(w) }) {
+        add_digits(st, line, p, set);
     }
 }
 
 // One more arrangement of a line has the pattern of a word.
 fn add_support(st: &mut [u16], lane: Lane, w: u32)
-    requires { WordAsk lane.len lane.number lane.first w st.old }
+    requires { WordAsk lane w st.old }
     ensures { Raised lane.number st.old st.new (part lane.first w) }
 {
     raise_support(st, lane.number, first_of(w), lane.first);
     raise_support(st, lane.number, second_of(w), lane.first + 1);
-    add_inner(st, lane.len, lane.number, w);
+    add_inner(st, lane.number, w);
 }
 
 // An arrangement joins a line's list.
 fn add_arrangement(st: &mut [u16], words: &[u32], lane: Lane, id: usize)
-    requires { AddAsk lane.len lane.number lane.first words.now st.old (id ∷ []) × Known lane.len id }
+    requires { AddAsk lane words.now st.old (id ∷ []) × Known lane.len id }
     ensures { Added lane.len lane.number st.old st.new (id ∷ []) }
 {
     let k = usize::from(st[Slab::LENGTHS + lane.number]);
@@ -93,7 +90,7 @@ impl Side {
 
 // The arrangements of subset s from each start of one side.
 fn list_starts(st: &mut [u16], words: &[u32], lane: Lane, side: Side, s: usize)
-    requires { AddAsk lane.len lane.number lane.first words.now st.old (starts_from lane.len (is_outside side) s (size_in s) 0)
+    requires { AddAsk lane words.now st.old (starts_from lane.len (is_outside side) s (size_in s) 0)
         × StartsAsk lane.len s (size_in s) }
     ensures { Added lane.len lane.number st.old st.new (starts_from lane.len (is_outside side) s (size_in s) 0) }
 {
@@ -105,7 +102,7 @@ fn list_starts(st: &mut [u16], words: &[u32], lane: Lane, side: Side, s: usize)
 
 // The arrangements of one side whose digits have the sum that is wanted.
 fn list_side(st: &mut [u16], words: &[u32], lane: Lane, side: Side, want: usize)
-    requires { AddAsk lane.len lane.number lane.first words.now st.old (side_of lane.len (is_outside side) want) × (want < 29) }
+    requires { AddAsk lane words.now st.old (side_of lane.len (is_outside side) want) × (want < 29) }
     ensures { Added lane.len lane.number st.old st.new (side_of lane.len (is_outside side) want) }
 {
     let top = 1u16 << (lane.len - 1);
@@ -118,7 +115,7 @@ fn list_side(st: &mut [u16], words: &[u32], lane: Lane, side: Side, want: usize)
 
 // The arrangements of a line with a target: the inside ones have its sum, the outside ones leave it.
 fn list_line(st: &mut [u16], words: &[u32], lane: Lane, target: usize)
-    requires { AddAsk lane.len lane.number lane.first words.now st.old (numbers_for lane.len target) × (target ≤ max_target lane.len) }
+    requires { AddAsk lane words.now st.old (numbers_for lane.len target) × (target ≤ max_target lane.len) }
     ensures { Added lane.len lane.number st.old st.new (numbers_for lane.len target) }
 {
     let size = GridSize { n: lane.len };

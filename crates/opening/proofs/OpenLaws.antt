@@ -27,7 +27,7 @@ use Rattle.words.proofs.PatternLaws.{part_digit, part_other}
 use Rattle.arcs.specs.Arc.{lives, live, support, Tallied, Alive, Unsupported}
 use Rattle.table.specs.Lines.{cell_at, black_at, LineOf}
 use Rattle.listing.specs.Listing.{Lists, target_at, LinesListed}
-use Rattle.listing.proofs.AddLaws.{black_in}
+use Rattle.arcs.proofs.KillLaws.{black_low, black_high}
 use Rattle.listing.proofs.LineLaws.{Listable, lists_kept}
 use Rattle.opening.specs.Opening.{Bare, along_row, along_column, BareTo, Opened}
 
@@ -88,8 +88,8 @@ part_value n ℓ id p v z y e = go (dec_lt v 8)
     high h (no x) = absurd (omega (arith, bit_le v (mask_in (id / 9)) (digit h), y.digits, pow_mono {i = n - 1} {j = v} (omega arith)))
 
     black : Dec (v ≡ black_at ℓ) → Dec (v ≡ suc (black_at ℓ)) → 8 ≤ v → (8 ≤ v) × (v < 12)
-    black (yes x) _ h = omega (arith, black_in ℓ)
-    black (no x) (yes d) h = omega (arith, black_in ℓ)
+    black (yes x) _ h = omega (arith, black_low ℓ, black_high ℓ)
+    black (no x) (yes d) h = omega (arith, black_low ℓ, black_high ℓ)
     black (no x) (no d) h = absurd (omega (arith, part_other (black_at ℓ) (word_of n id) p v h x d))
 
     go : Dec (v < 8) → ((1 ≤ v) × (v < n - 1)) ⊎ ((8 ≤ v) × (v < 12))

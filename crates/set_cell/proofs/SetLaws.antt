@@ -9,16 +9,18 @@ use native.Mathlib.Decide.{ℕ_discrete, dec_lt}
 use borrow.Author.Tests.{eqb-true, eq-eqb, ne_eqb}
 use Rattle.bits.specs.Bit.{bit}
 use Rattle.table.specs.Steps.{strikes, taken}
+use Rattle.table.specs.Table.{in_column, in_row}
 use Rattle.lane.specs.declared.Lane.{Lane}
-use Rattle.lane.specs.Lanes.{row_lane, column_lane, lane_value}
+use Rattle.lane.specs.Lanes.{lane_value}
+use Rattle.lane.specs.Rows.{RowLane, ColumnLane}
 use Rattle.queue_state.specs.Slab.{cand, table_in, Grown, Struck, Masked}
 use Rattle.queue_state.proofs.SlabLaws.{cand_lt}
 use Rattle.queue_state.proofs.StruckLaws.{struck_none, struck_both, struck_as}
 use Rattle.queue_state.proofs.ReadyLaws.{ready_grown, ready_valid}
 use Rattle.queue_state.specs.Ready.{Valid}
-use Rattle.set_cell.proofs.RunLaws.{row_run, run_row, column_run, run_column, row_inside, column_inside}
+use Rattle.set_cell.proofs.RunLaws.{row_run, run_row, column_run, run_column}
 use Rattle.set_cell.specs.Run.{Sides, SidesAsk}
-use Rattle.set_cell.specs.Setting.{SetHit, SetAsk, Others, BlacksAround, RestOfHalf, Hits, along_row, along_column, in_cell, to_left, to_right, above, below}
+use Rattle.set_cell.specs.Setting.{SetHit, SetAsk, Others, Around, RestOfHalf, Hits, along_row, along_column, in_cell, to_left, to_right, above, below}
 use Rattle.set_cell.proofs.SettingLaws.{hits_strikes, strikes_hits, row_value, column_value}
 use Rattle.line_laws.proofs.CellValues.{value_range}
 
@@ -36,39 +38,43 @@ module _ {n r c v : ℕ} {l : List ℕ} (a : SetAsk n l r c v) where
   pub ask_narrow : v < 16
   ask_narrow = omega (arith, ask_value)
 
-  pub ask_row : {lane : Lane} {u w : ℕ} → lane ≡ row_lane n r → u < 16 → w < 16 → SidesAsk l lane.len lane c u w
-  ask_row e h k =
-      rw e (record { sized = a.ready.sized; before = h; behind = k; place = a.column; cells = row_inside r n (omega (arith, a.row, ask_high)) ask_high })
+  pub ask_row : {lane : Lane} {u w : ℕ} → RowLane n r lane → u < 16 → w < 16 → SidesAsk l lane c u w
+  ask_row e h k = record { sized = a.ready.sized; before = h; behind = k; place = rw e.4 a.column; few = rw e.4 ask_high }
 
-  pub ask_column : {lane : Lane} {u w : ℕ} → lane ≡ column_lane n c → u < 16 → w < 16 → SidesAsk l lane.len lane r u w
-  ask_column e h k =
-      rw e (record { sized = a.ready.sized; before = h; behind = k; place = a.row; cells = column_inside c n (omega (arith, a.column, ask_high)) ask_high })
+  pub ask_column : {lane : Lane} {u w : ℕ} → ColumnLane n c lane → u < 16 → w < 16 → SidesAsk l lane r u w
+  ask_column e h k = record { sized = a.ready.sized; before = h; behind = k; place = rw e.4 a.row; few = rw e.4 ask_high }
 
 -- ---- the parts together
-module _ {n r c v m : ℕ} {l : List ℕ} (a : SetAsk n l r c v) (f : RestOfHalf v m) where
+module _ {n r c v m : ℕ} {l : List ℕ} (row column : Lane) (a : SetAsk n l r c v) (g₁ : RowLane n r row) (g₂ : ColumnLane n c column) (f : RestOfHalf v m) where
   Parts : ℕ → ℕ → Type 0
-  Parts x w = ((Others (row_lane n r) n c v x w ⊎ Others (column_lane n c) n r v x w) ⊎ Masked (r * 9 + c) m x w) ⊎ BlacksAround n r c v x w
+  Parts x w = ((Others row c v x w ⊎ Others column r v x w) ⊎ Masked (r * 9 + c) m x w) ⊎ ((8 ≤ v) × (Around row c x w ⊎ Around column r x w))
 
   high : n ≤ 9
   high = ask_high a
 
-  part_row : (x w : ℕ) → lane_value (row_lane n r) v ≡ true → Sides (row_lane n r) n c v v x w → Hits r c v (x / 9) (x % 9) w
-  part_row x w t (inl q) = let p = row_run q (omega (arith, high, a.column)) in along_row p.0 (omega (arith, p.2)) (sym (row_value v) ∙ t) q.value
-  part_row x w t (inr q) = let p = row_run q high in along_row p.0 (omega (arith, p.1)) (sym (row_value v) ∙ t) q.value
+  row_has : lane_value row.first v ≡ in_row v
+  row_has = rw g₁.3 (row_value v)
 
-  part_column : (x w : ℕ) → lane_value (column_lane n c) v ≡ true → Sides (column_lane n c) n r v v x w → Hits r c v (x / 9) (x % 9) w
-  part_column x w t (inl q) = let p = column_run q (omega (arith, high, a.column)) in along_column p.0 (omega (arith, p.2)) (sym (column_value v (ask_value a).1) ∙ t) q.value
-  part_column x w t (inr q) = let p = column_run q (omega (arith, high, a.column)) in along_column p.0 (omega (arith, p.1)) (sym (column_value v (ask_value a).1) ∙ t) q.value
+  column_has : lane_value column.first v ≡ in_column v
+  column_has = rw g₂.3 (column_value v (ask_value a).1)
+
+  part_row : (x w : ℕ) → lane_value row.first v ≡ true → Sides row c v v x w → Hits r c v (x / 9) (x % 9) w
+  part_row x w t (inl q) = let p = row_run g₁ q (omega (arith, high, a.column)) in along_row p.0 (omega (arith, p.2)) (sym row_has ∙ t) q.value
+  part_row x w t (inr q) = let p = row_run g₁ q (rw g₁.4 high) in along_row p.0 (omega (arith, p.1)) (sym row_has ∙ t) q.value
+
+  part_column : (x w : ℕ) → lane_value column.first v ≡ true → Sides column r v v x w → Hits r c v (x / 9) (x % 9) w
+  part_column x w t (inl q) = let p = column_run g₂ q (omega (arith, high, a.column)) in along_column p.0 (omega (arith, p.2)) (sym column_has ∙ t) q.value
+  part_column x w t (inr q) = let p = column_run g₂ q (omega (arith, high, a.column)) in along_column p.0 (omega (arith, p.1)) (sym column_has ∙ t) q.value
 
   part_cell : (x w : ℕ) → w < 16 → x ≡ r * 9 + c → bit w m ≡ 1 → Hits r c v (x / 9) (x % 9) w
   part_cell x w h e b =
       let q = f.only w h b in in_cell (omega (arith, high, a.column)) (omega (arith, high, a.column)) q.0 q.1
 
-  part_blacks : (x w : ℕ) → 8 ≤ v → Sides (row_lane n r) n c 9 8 x w ⊎ Sides (column_lane n c) n r 11 10 x w → Hits r c v (x / 9) (x % 9) w
-  part_blacks x w h (inl (inl q)) = let p = row_run q (omega (arith, high, a.column)) in to_left h p.0 p.2 q.value
-  part_blacks x w h (inl (inr q)) = let p = row_run q high in to_right h p.0 (omega (arith, p.1)) q.value
-  part_blacks x w h (inr (inl q)) = let p = column_run q (omega (arith, high, a.column)) in above h p.0 p.2 q.value
-  part_blacks x w h (inr (inr q)) = let p = column_run q (omega (arith, high, a.column)) in below h p.0 (omega (arith, p.1)) q.value
+  part_blacks : (x w : ℕ) → 8 ≤ v → Around row c x w ⊎ Around column r x w → Hits r c v (x / 9) (x % 9) w
+  part_blacks x w h (inl (inl q)) = let p = row_run g₁ q (omega (arith, high, a.column)) in to_left h p.0 p.2 (omega (arith, q.value, g₁.3))
+  part_blacks x w h (inl (inr q)) = let p = row_run g₁ q (rw g₁.4 high) in to_right h p.0 (omega (arith, p.1)) (omega (arith, q.value, g₁.3))
+  part_blacks x w h (inr (inl q)) = let p = column_run g₂ q (omega (arith, high, a.column)) in above h p.0 p.2 (omega (arith, q.value, g₂.3))
+  part_blacks x w h (inr (inr q)) = let p = column_run g₂ q (omega (arith, high, a.column)) in below h p.0 (omega (arith, p.1)) (omega (arith, q.value, g₂.3))
 
   of_parts : (x w : ℕ) → w < 16 → Parts x w → Hits r c v (x / 9) (x % 9) w
   unfolding Parts Masked
@@ -84,15 +90,15 @@ module _ {n r c v m : ℕ} {l : List ℕ} (a : SetAsk n l r c v) (f : RestOfHalf
   to_parts : (x w : ℕ) → Valid n x w → Hits r c v (x / 9) (x % 9) w → Parts x w
   unfolding Parts Masked
   to_parts x w k (along_row e d t g) =
-      inl (inl (inl (row_value v ∙ t, ⊎_elim (λ h. inl (run_row e (omega arith) h g)) (λ h. inr (run_row e h k.column g)) (beside d))))
+      inl (inl (inl (row_has ∙ t, ⊎_elim (λ h. inl (run_row g₁ e (omega arith) h g)) (λ h. inr (run_row g₁ e h (rw g₁.4 k.column) g)) (beside d))))
   to_parts x w k (along_column e d t g) =
-      inl (inl (inr (column_value v (ask_value a).1 ∙ t, ⊎_elim (λ h. inl (run_column e (omega arith) h g)) (λ h. inr (run_column e h k.row g)) (beside d))))
+      inl (inl (inr (column_has ∙ t, ⊎_elim (λ h. inl (run_column g₂ e (omega arith) h g)) (λ h. inr (run_column g₂ e h (rw g₂.4 k.row) g)) (beside d))))
   to_parts x w k (in_cell e d t g) =
       let b = value_range high k.value in inl (inr (omega arith, f.each w b.0 b.1 t g))
-  to_parts x w k (to_left h e d g) = inr (h, inl (inl (run_row e (omega arith) d g)))
-  to_parts x w k (to_right h e d g) = inr (h, inl (inr (run_row e (omega arith) k.column g)))
-  to_parts x w k (above h e d g) = inr (h, inr (inl (run_column e (omega arith) d g)))
-  to_parts x w k (below h e d g) = inr (h, inr (inr (run_column e (omega arith) k.row g)))
+  to_parts x w k (to_left h e d g) = inr (h, inl (inl (run_row g₁ e (omega arith) d (omega (arith, g, g₁.3)))))
+  to_parts x w k (to_right h e d g) = inr (h, inl (inr (run_row g₁ e (omega arith) (rw g₁.4 k.column) (omega (arith, g, g₁.3)))))
+  to_parts x w k (above h e d g) = inr (h, inr (inl (run_column g₂ e (omega arith) d (omega (arith, g, g₂.3)))))
+  to_parts x w k (below h e d g) = inr (h, inr (inr (run_column g₂ e (omega arith) (rw g₂.4 k.row) (omega (arith, g, g₂.3)))))
 
   struck_parts : {l' : List ℕ} → Struck l l' Parts → Struck l l' (SetHit r c v)
   struck_parts s =
@@ -104,8 +110,8 @@ module _ {n r c v m : ℕ} {l : List ℕ} (a : SetAsk n l r c v) (f : RestOfHalf
       back x w h t (yes e) = inl (to_parts x w (ready_valid a.ready x w h e) (strikes_hits r c v (x / 9) (x % 9) w t))
       back x w h t (no e) = inr (omega (arith, cand_lt l x w))
 
-  pub set_struck : {l₁ l₂ l₃ l₄ : List ℕ} → Struck l l₁ (Others (row_lane n r) n c v) → Struck l₁ l₂ (Others (column_lane n c) n r v) →
-      Struck l₂ l₃ (Masked (r * 9 + c) m) → Struck l₃ l₄ (BlacksAround n r c v) → Struck l l₄ (SetHit r c v)
+  pub set_struck : {l₁ l₂ l₃ l₄ : List ℕ} → Struck l l₁ (Others row c v) → Struck l₁ l₂ (Others column r v) →
+      Struck l₂ l₃ (Masked (r * 9 + c) m) → Struck l₃ l₄ (λ x w. (8 ≤ v) × (Around row c x w ⊎ Around column r x w)) → Struck l l₄ (SetHit r c v)
   unfolding Parts
   set_struck p q s t = struck_parts (struck_both (struck_both (struck_both p q) s) t)
 

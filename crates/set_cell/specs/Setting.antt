@@ -1,9 +1,9 @@
 -- Setting a cell: which candidates are struck, and what is asked. Assumes nothing.
-use Rattle.std.specs.Prelude.{ℕ, ◌/◌, ◌%◌, ◌≤◌, ◌<◌, ◌≡◌, true, ◌≢◌, ◌⊎◌, List}
+use Rattle.std.specs.Prelude.{ℕ, ◌+◌, ◌/◌, ◌%◌, ◌≤◌, ◌<◌, ◌≡◌, true, ◌≢◌, List}
 use Rattle.bits.specs.Bit.{bit}
 use Rattle.table.specs.Steps.{strikes}
 use Rattle.table.specs.Table.{in_column, in_row, same_half}
-use Rattle.lane.specs.Lanes.{row_lane, column_lane, lane_value}
+use Rattle.lane.specs.Lanes.{lane_value}
 use Rattle.lane.specs.declared.Lane.{Lane}
 use Rattle.queue_state.specs.Ready.{Ready}
 use Rattle.table.specs.Value.{ValueOf}
@@ -21,12 +21,12 @@ pub record SetAsk (n : ℕ) (l : List ℕ) (r c v : ℕ) : Type 0 where
   pub value : ValueOf n v
 
 -- The strikes of its parts: a value of a line's half at the other places of the line, and, of a black, blacks that are out of order.
-abbrev pub Others : Lane → ℕ → ℕ → ℕ → ℕ → ℕ → Type 0
-Others lane n i v x w = (lane_value lane v ≡ true) × Sides lane n i v v x w
+abbrev pub Others : Lane → ℕ → ℕ → ℕ → ℕ → Type 0
+Others lane i v x w = (lane_value lane.first v ≡ true) × Sides lane i v v x w
 
--- What a black leaves out: second blacks before it and first blacks behind it, in its row and in its column.
-abbrev pub BlacksAround : ℕ → ℕ → ℕ → ℕ → ℕ → ℕ → Type 0
-BlacksAround n r c v x w = (8 ≤ v) × (Sides (row_lane n r) n c 9 8 x w ⊎ Sides (column_lane n c) n r 11 10 x w)
+-- What a black leaves out of a line: second blacks before it and first blacks behind it.
+abbrev pub Around : Lane → ℕ → ℕ → ℕ → Type 0
+Around lane i x w = Sides lane i (lane.first + 1) lane.first x w
 
 -- A mask of the other values of the half of v.
 pub record RestOfHalf (v m : ℕ) : Type 0 where

@@ -4,7 +4,7 @@
 ghost use Rattle.std.specs.Prelude.{◌+◌, ◌≤◌, ◌<◌};
 ghost use Rattle.queue_state.specs.Slab.{Struck};
 ghost use Rattle.set_cell.specs.Run.{Run, Sides, RunAsk, SidesAsk};
-ghost use Rattle.set_cell.specs.Setting.{SetHit, SetAsk, Others, RestOfHalf};
+ghost use Rattle.set_cell.specs.Setting.{SetHit, SetAsk, Others, Around, RestOfHalf};
 
 use lane::Lane;
 use queue_state::{clear_mask, clear_value};
@@ -22,8 +22,8 @@ fn clear_run(st: &mut [u16], lane: Lane, a: usize, b: usize, v: usize)
 
 // Strikes u before place i of a line, and v behind it.
 fn clear_sides(st: &mut [u16], lane: Lane, i: usize, u: usize, v: usize)
-    requires { SidesAsk st.old lane.len lane i u v }
-    ensures { Struck st.old st.new (Sides lane lane.len i u v) }
+    requires { SidesAsk st.old lane i u v }
+    ensures { Struck st.old st.new (Sides lane i u v) }
 {
     clear_run(st, lane, 0, i, u);
     clear_run(st, lane, i + 1, lane.len, v);
@@ -31,8 +31,8 @@ fn clear_sides(st: &mut [u16], lane: Lane, i: usize, u: usize, v: usize)
 
 // Strikes v at the other places of a line than i, if it is a value of the line's half.
 fn clear_others(st: &mut [u16], lane: Lane, i: usize, v: usize)
-    requires { SidesAsk st.old lane.len lane i v v }
-    ensures { Struck st.old st.new (Others lane lane.len i v) }
+    requires { SidesAsk st.old lane i v v }
+    ensures { Struck st.old st.new (Others lane i v) }
 {
     if lane.has(v) {
         clear_sides(st, lane, i, v, v);
@@ -41,8 +41,8 @@ fn clear_others(st: &mut [u16], lane: Lane, i: usize, v: usize)
 
 // Strikes what a black at place i leaves out of a line: second blacks before it and first blacks behind it.
 fn clear_around(st: &mut [u16], lane: Lane, i: usize)
-    requires { SidesAsk st.old lane.len lane i (lane.first + 1) lane.first }
-    ensures { Struck st.old st.new (Sides lane lane.len i (lane.first + 1) lane.first) }
+    requires { SidesAsk st.old lane i (lane.first + 1) lane.first }
+    ensures { Struck st.old st.new (Around lane i) }
 {
     clear_sides(st, lane, i, lane.first + 1, lane.first);
 }

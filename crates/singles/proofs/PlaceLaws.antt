@@ -16,7 +16,6 @@ use Rattle.queue_state.proofs.SlabLaws.{cand_lt}
 use Rattle.queue_state.proofs.StruckLaws.{grown_gone}
 use Rattle.queue_state.proofs.ReadyLaws.{ready_grown, ready_valid}
 use Rattle.queue_state.specs.Ready.{Ready}
-use Rattle.set_cell.specs.Run.{Inside}
 use Rattle.set_cell.specs.Setting.{SetHit, SetAsk}
 use Rattle.line_laws.proofs.CellValues.{value_range}
 use Rattle.counters.specs.Counters.{Fell, IsSet, AllSet, in_line, places_base, line_places, PlacesOf}
@@ -164,15 +163,6 @@ module _ {n counter start stride v : ℕ} {own : Bool} {l : List ℕ} (a : Place
   pub places_passed : own ≡ false → PlacesDone n l l own counter start stride v
   places_passed t = record { moved = moved_refl l; steps = done; places = λ ℓ i h b. places_pass a.ready b t }
 
-  cells : Inside start stride n
-  cells =
-      let b = a.counted in
-      record {
-        inside = λ p q.
-            let g = in_grid n a.line p (high a.ready b) b.line q in
-            omega (arith, b.along p, high a.ready b);
-      }
-
   module _ (t : own ≡ true) where
     pub places_lower : CounterAsk l counter
     places_lower = places_countable a.ready a.counted t
@@ -192,8 +182,8 @@ module _ {n counter start stride v : ℕ} {own : Bool} {l : List ℕ} (a : Place
             places = λ ℓ i h b. places_far a.ready b t fell_one (λ q. d (omega (arith, fell_one.here, e.0)));
           }
 
-      pub find_ask : FindAsk l₁ n start stride v
-      find_ask = record { size = fell_one.grown.size ∙ a.ready.sized.size; value = narrow a.ready a.counted; cells = cells }
+      pub find_ask : FindAsk l₁ n v
+      find_ask = record { size = fell_one.grown.size ∙ a.ready.sized.size; value = narrow a.ready a.counted; few = high a.ready a.counted }
 
       pub places_empty : PlaceFound l₁ n start stride v None → PlacesDone n l l₁ own counter start stride v
       places_empty g =
@@ -206,9 +196,6 @@ module _ {n counter start stride v : ℕ} {own : Bool} {l : List ℕ} (a : Place
       module _ {p : ℕ} (g : PlaceFound l₁ n start stride v (Some p)) where
         pub place_set_ask : SetAsk n l₁ ((start + p * stride) / 9) ((start + p * stride) % 9) v
         place_set_ask = place_ask a.ready a.counted t fell_one g
-
-        pub place_cell : start + p * stride < 81
-        place_cell = cells.inside p g.0
 
         pub place_settled : {l₂ : List ℕ} → r ≡ 1 → Struck l₁ l₂ (SetHit ((start + p * stride) / 9) ((start + p * stride) % 9) v) →
             PlacesDone n l l₂ own counter start stride v

@@ -5,7 +5,8 @@ use mathlib.Core.Logic.{inl, inr}
 use mathlib.Core.List.{List}
 use native.Mathlib.Omega.{arith}
 use Rattle.rules.specs.Grid.{across, down, index}
-use Rattle.lane.specs.Lanes.{row_lane, column_lane, lane_value}
+use Rattle.rules.specs.Mark.{left_black, upper_black}
+use Rattle.lane.specs.Lanes.{lane_value}
 use Rattle.queue_state.specs.Layout.{row_half_place, col_half_place}
 use Rattle.queue_state.specs.Ready.{Next}
 use Rattle.counters.specs.Counters.{HalvesOf}
@@ -17,29 +18,29 @@ use Rattle.singles.proofs.HandlingLaws.{handling_grown, handling_at, handling_no
 use Rattle.singles.specs.Handling.{Handling, HalfAt, HalfAsk, HalfDone, SingletonAsk, SingletonDone}
 
 module _ {n r c v h : ℕ} {l : List ℕ} (a : Handling n l r c v h) where
-  row_at : HalvesOf (across r) n l h → HalfAt n l (lane_value (row_lane n r) v) (row_half_place (r * 9 + c)) (r * 9 + c) 1022 (across r) c h v
+  row_at : HalvesOf (across r) n l h → HalfAt n l (lane_value left_black v) (row_half_place (r * 9 + c)) (r * 9 + c) 1022 (across r) c h v
   unfolding index
   row_at w =
       record { line = a.row; place = a.column; there = refl; at_counter = refl; at_mask = refl; value = a.value; owned = row_value v; next = a.next; halves = w }
 
-  column_at : HalvesOf (down c) n l h → HalfAt n l (lane_value (column_lane n c) v) (col_half_place (r * 9 + c)) (r * 9 + c) 3326 (down c) r h v
+  column_at : HalvesOf (down c) n l h → HalfAt n l (lane_value upper_black v) (col_half_place (r * 9 + c)) (r * 9 + c) 3326 (down c) r h v
   unfolding index
   column_at w =
       record { line = a.column; place = a.row; there = refl; at_counter = refl; at_mask = refl; value = a.value; owned = column_value v (handling_value a); next = a.next; halves = w }
 
 module _ {n r c v : ℕ} {l : List ℕ} (a : SingletonAsk n l r c v) where
-  pub row_half_ask : HalfAsk n l (lane_value (row_lane n r) v) (row_half_place (r * 9 + c)) (r * 9 + c) 1022
+  pub row_half_ask : HalfAsk n l (lane_value left_black v) (row_half_place (r * 9 + c)) (r * 9 + c) 1022
   row_half_ask =
       record { ready = a.strike.ready; line = across r; place = c; head = a.head; value = v; half = row_at a.strike a.halves.rows }
 
-  module _ {l₁ : List ℕ} (d : HalfDone n l l₁ (lane_value (row_lane n r) v) (row_half_place (r * 9 + c)) (r * 9 + c) 1022) where
+  module _ {l₁ : List ℕ} (d : HalfDone n l l₁ (lane_value left_black v) (row_half_place (r * 9 + c)) (r * 9 + c) 1022) where
     column_now : (h : ℕ) → Next l h (r * 9 + c) v → HalvesOf (down 0) n l h →
-        HalfAt n l₁ (lane_value (column_lane n c) v) (col_half_place (r * 9 + c)) (r * 9 + c) 3326 (down c) r h v
+        HalfAt n l₁ (lane_value upper_black v) (col_half_place (r * 9 + c)) (r * 9 + c) 3326 (down c) r h v
     column_now h x w =
         column_at (handling_now d.moved.grown a.strike h x)
         (half_moved a.strike.ready.size.high d.moved (omega (arith, x.waiting)) (down 0) (inr (omega (arith, handling_cell a.strike))) w)
 
-    pub column_half_ask : HalfAsk n l₁ (lane_value (column_lane n c) v) (col_half_place (r * 9 + c)) (r * 9 + c) 3326
+    pub column_half_ask : HalfAsk n l₁ (lane_value upper_black v) (col_half_place (r * 9 + c)) (r * 9 + c) 3326
     column_half_ask =
         record {
           ready = (handling_grown d.moved.grown a.strike).ready;
@@ -50,7 +51,7 @@ module _ {n r c v : ℕ} {l : List ℕ} (a : SingletonAsk n l r c v) where
           half = column_now a.head a.strike.next a.halves.columns;
         }
 
-    pub singleton_done : {l₂ : List ℕ} → HalfDone n l₁ l₂ (lane_value (column_lane n c) v) (col_half_place (r * 9 + c)) (r * 9 + c) 3326 →
+    pub singleton_done : {l₂ : List ℕ} → HalfDone n l₁ l₂ (lane_value upper_black v) (col_half_place (r * 9 + c)) (r * 9 + c) 3326 →
         SingletonDone n l l₂ r c v
     singleton_done f =
         record {

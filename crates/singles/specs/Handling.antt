@@ -1,11 +1,10 @@
 -- What a handler of a strike asks and gives. Assumes nothing.
-use Rattle.std.specs.Prelude.{ℕ, ◌+◌, ◌*◌, ◌<◌, ◌≡◌, Bool, ◌&&◌, List, Option, Some, None, leb, ltb, length}
+use Rattle.std.specs.Prelude.{ℕ, ◌+◌, ◌*◌, ◌≤◌, ◌<◌, ◌≡◌, Bool, ◌&&◌, List, Option, Some, None, leb, ltb, length}
 use Rattle.rules.specs.Grid.{Line, across, down, index}
 use Rattle.queue_state.specs.Layout.{row_half_at, places_at, row_blacks_at, lengths_at, slab_size}
 use Rattle.queue_state.specs.Slab.{cand}
 use Rattle.queue_state.specs.Ready.{Ready, Next, Moved}
 use Rattle.table.specs.Value.{ValueOf}
-use Rattle.set_cell.specs.Run.{Inside}
 use Rattle.counters.specs.Counters.{in_line, halves_base, places_base, blacks_base, own_black, HalvesOf, PlacesOf, BlacksOf, Halves, LinePlaces, Blacks}
 use Rattle.table.specs.Lines.{cell_of}
 use Rattle.singles.specs.Reasons.{Steps}
@@ -62,11 +61,11 @@ pub record SingletonDone (n : ℕ) (l l' : List ℕ) (r c v : ℕ) : Type 0 wher
   pub steps : Steps n l l'
   pub halves : (h : ℕ) → Next l h (r * 9 + c) v → Halves n l h → Halves n l' (h + 1)
 
--- A line of n places by its start and stride.
-pub record FindAsk (l : List ℕ) (n start stride v : ℕ) : Type 0 where
+-- The value v can be looked for at n places of a line.
+pub record FindAsk (l : List ℕ) (n v : ℕ) : Type 0 where
   pub size : length l ≡ slab_size
   pub value : v < 16
-  pub cells : Inside start stride n
+  pub few : n ≤ 9
 
 -- A place of the line that has the candidate v, or none of its places has it.
 abbrev pub PlaceFound : List ℕ → ℕ → ℕ → ℕ → ℕ → Option ℕ → Type 0

@@ -15,9 +15,9 @@ use value::{Candidate, Value};
 
 // A strike of x: the counter of its cell's half of one of its lines falls, if x is of that half; a half with one candidate left is set to it.
 fn update_half(st: &mut [u16], lane: Lane, x: Candidate, counters: usize, mask: u16)
-    requires { HalfAsk lane.len st.old (lane_value lane x.value) (counters + (x.row * 9 + x.column)) (x.row * 9 + x.column) mask
+    requires { HalfAsk lane.len st.old (lane_value lane.first x.value) (counters + (x.row * 9 + x.column)) (x.row * 9 + x.column) mask
         × (x.row < 9) × (x.column < 9) }
-    ensures { HalfDone lane.len st.old st.new (lane_value lane x.value) (counters + (x.row * 9 + x.column)) (x.row * 9 + x.column) mask }
+    ensures { HalfDone lane.len st.old st.new (lane_value lane.first x.value) (counters + (x.row * 9 + x.column)) (x.row * 9 + x.column) mask }
 {
     let cell = x.cell();
     if lane.has(x.value) && lower(st, counters + cell) == 1 {
@@ -43,7 +43,7 @@ pub fn update_singleton(st: &mut [u16], n: usize, x: Candidate)
 
 // The first place of a line that has the candidate v.
 fn find_place(st: &[u16], lane: Lane, v: usize) -> Option<usize>
-    requires { FindAsk st.now lane.len lane.start lane.stride v }
+    requires { FindAsk st.now lane.len v }
     ensures { PlaceFound st.now lane.len lane.start lane.stride v result }
 {
     (0..lane.len).find(|&p| (st[lane.cell(p)] >> v) % 2 == 1)
@@ -51,8 +51,8 @@ fn find_place(st: &[u16], lane: Lane, v: usize) -> Option<usize>
 
 // The counter of a value's places in a line falls, if the line has the value; a value with one place left is set there.
 fn update_places(st: &mut [u16], lane: Lane, v: usize)
-    requires { PlacesAsk lane.len st.old (lane_value lane v) (places_at + lane.number * 16 + v) lane.start lane.stride v }
-    ensures { PlacesDone lane.len st.old st.new (lane_value lane v) (places_at + lane.number * 16 + v) lane.start lane.stride v }
+    requires { PlacesAsk lane.len st.old (lane_value lane.first v) (places_at + lane.number * 16 + v) lane.start lane.stride v }
+    ensures { PlacesDone lane.len st.old st.new (lane_value lane.first v) (places_at + lane.number * 16 + v) lane.start lane.stride v }
 {
     if lane.has(v) && lower(st, Slab::PLACES + lane.number * 16 + v) == 1 {
         if let Some(place) = find_place(st, lane, v) {
@@ -72,9 +72,9 @@ pub fn update_hidden_singles(st: &mut [u16], n: usize, x: Candidate)
 
 // The counter of a cell's blacks of one line falls, if x is one of them; where none is left, those of the other line are struck.
 fn update_blacks(st: &mut [u16], lane: Lane, x: Candidate, counters: usize, mask: u16)
-    requires { BlacksAsk lane.len st.old (lane_black lane x.value) (counters + (x.row * 9 + x.column)) (x.row * 9 + x.column) mask
+    requires { BlacksAsk lane.len st.old (lane_black lane.first x.value) (counters + (x.row * 9 + x.column)) (x.row * 9 + x.column) mask
         × (x.row < 9) × (x.column < 9) }
-    ensures { BlacksDone lane.len st.old st.new (lane_black lane x.value) (counters + (x.row * 9 + x.column)) (x.row * 9 + x.column) mask }
+    ensures { BlacksDone lane.len st.old st.new (lane_black lane.first x.value) (counters + (x.row * 9 + x.column)) (x.row * 9 + x.column) mask }
 {
     let cell = x.cell();
     if lane.has_black(x.value) && lower(st, counters + cell) == 0 {

@@ -5,7 +5,7 @@
 #![tactic(auto)]
 
 ghost use Rattle.std.specs.Prelude.{◌≡◌, ◌+◌, ◌≤◌, ◌<◌, length, eqb, not};
-ghost use Rattle.words.specs.Word.{from_sum, set_of, first_of, second_of, outside_of, covered_of, from_of, to_of, head_of, last_of, shift_of};
+ghost use Rattle.words.specs.Word.{from_sum, set_of, inner_of, first_of, second_of, outside_of, covered_of, from_of, to_of, head_of, last_of, shift_of};
 ghost use Rattle.words.specs.Word.{inner_places, word_from, Words};
 ghost use Rattle.words.specs.Fill.{FillAsk, WordsFilled};
 
@@ -51,6 +51,13 @@ pub fn set_of(w: u32) -> u16
     ensures { result ≡ set_of w }
 {
     (w % 256) as u16
+}
+
+// The inner places.
+pub fn inner_of(w: u32) -> u16
+    ensures { result ≡ inner_of w }
+{
+    (w / 256 % 512) as u16
 }
 
 // The place of the line's first black, and of its second. By name, as are the ends below: one function would take which of the two is meant, and ask it.

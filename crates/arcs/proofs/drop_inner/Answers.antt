@@ -1,5 +1,4 @@
 -- `arcs::drop_inner` meets its contract. Assumes nothing.
-use mathlib.Core.Path.{refl}
 use Rattle.arcs.proofs.WalkLaws.{walking_start, walking_ask, walking_next, walking_less, walking_end}
 use Rattle.arcs.proofs.drop_inner.Goals as goal
 
@@ -8,8 +7,8 @@ loop-p-init c = walking_start c.requires _ _ c.from_of.ensures c.next_place-p.en
 
 pub drop_digits-requires : goal.drop_digits-requires
 drop_digits-requires c =
-    walking_ask c.requires c.loop-p.invariant _ c.to_of-to.ensures c.loop-p-test.true _ _
-    c.set_of-set.ensures refl
+    walking_ask c.requires c.loop-p.invariant _ c.to_of-to.ensures c.loop-p-test.true _
+    c.set_of-set.ensures
 
 pub loop-p-smaller : goal.loop-p-smaller
 loop-p-smaller c =

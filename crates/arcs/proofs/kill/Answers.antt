@@ -1,5 +1,4 @@
 -- `arcs::kill` meets its contract. Assumes nothing.
-use mathlib.Core.Path.{refl}
 use Rattle.arcs.proofs.KillLaws.{kill_black, kill_first, kill_inner, kill_last, kill_end}
 use Rattle.arcs.proofs.kill.Goals as goal
 
@@ -8,7 +7,7 @@ head_of-requires c = kill_black c.requires
 
 pub drop_support-requires : goal.drop_support-requires
 drop_support-requires c =
-    kill_first c.requires _ _ _ c.from_of.ensures refl c.head_of.ensures
+    kill_first c.requires _ _ c.from_of.ensures c.head_of.ensures
 
 pub drop_inner-requires : goal.drop_inner-requires
 drop_inner-requires c =
@@ -21,8 +20,8 @@ last_of-requires c =
 pub drop_support-requires-2 : goal.drop_support-requires-2
 drop_support-requires-2 c =
     kill_last c.requires _ _ c.from_of.ensures c.drop_support.ensures
-    c.drop_inner.ensures _ _ _
-    c.to_of.ensures refl c.last_of.ensures
+    c.drop_inner.ensures _ _
+    c.to_of.ensures c.last_of.ensures
 
 pub returns : goal.returns
 returns c =

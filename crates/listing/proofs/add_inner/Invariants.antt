@@ -1,6 +1,6 @@
 -- What holds in the loop of `listing::add_inner`.
-use Rattle.listing.specs.Listing.{Raised, inner_to}
+use Rattle.listing.proofs.RaiseLaws.{Inner}
 use Rattle.listing.proofs.add_inner.Given as goal
 
 abbrev pub invariant-loop-p : goal.invariant-loop-p
-invariant-loop-p l = Raised l.line l.initial.st l.st (inner_to l.p l.w)
+invariant-loop-p l = Inner l.line l.w l.p-iterator.rest l.initial.st l.st

@@ -1,11 +1,15 @@
 -- `listing::add_support` meets its contract. Assumes nothing.
 use mathlib.Core.Path.{refl}
-use borrow.Author.Rules.{rules}
+use native.Mathlib.Omega.{arith}
+use Rattle.arcs.proofs.KillLaws.{black_high}
 use Rattle.listing.proofs.RaiseLaws.{word_first, word_second, word_inner, word_raised}
 use Rattle.listing.proofs.add_support.Goals as goal
 
 pub raise_support-requires : goal.raise_support-requires
 raise_support-requires c = word_first c.requires _ _ c.first_of.ensures refl
+
+pub overflow_add-lane : goal.overflow_add-lane
+overflow_add-lane c = omega (arith, c.args.lane.black, black_high c.args.lane.number)
 
 pub raise_support-requires-2 : goal.raise_support-requires-2
 raise_support-requires-2 c =
@@ -13,8 +17,7 @@ raise_support-requires-2 c =
 
 pub add_inner-requires : goal.add_inner-requires
 add_inner-requires c =
-    let w = c.requires in
-    (search rules, word_inner w _ _ c.first_of.ensures c.second_of.ensures c.raise_support.ensures c.raise_support-2.ensures)
+    word_inner c.requires _ _ c.first_of.ensures c.second_of.ensures c.raise_support.ensures c.raise_support-2.ensures
 
 pub returns : goal.returns
 returns c =

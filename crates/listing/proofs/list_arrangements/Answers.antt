@@ -9,13 +9,13 @@ list_line-requires c = row_ask (listable c.args.p c.requires) _ c.loop-i-test.tr
 
 pub list_line-requires-in-loop-i : goal.list_line-requires-in-loop-i
 list_line-requires-in-loop-i c =
-    column_ask (listable c.args.p c.requires) _ c.loop-i-test.true c.loop-i.invariant _ c.row.ensures c.from.ensures c.list_line.ensures _
+    column_ask (listable c.args.p c.requires) _ c.loop-i-test.true c.loop-i.invariant c.row.result _ c.row.ensures c.from.ensures c.list_line.ensures _
     c.column.ensures c.from-in-loop-i.ensures
 
 pub loop-i-preserved : goal.loop-i-preserved
 loop-i-preserved c =
-    listed_next (listable c.args.p c.requires) _ c.loop-i-test.true c.loop-i.invariant _ c.row.ensures c.from.ensures c.list_line.ensures _
-    c.column.ensures c.from-in-loop-i.ensures c.list_line-in-loop-i.ensures
+    listed_next (listable c.args.p c.requires) _ c.loop-i-test.true c.loop-i.invariant c.row.result _ c.row.ensures c.from.ensures c.list_line.ensures
+    c.column.result _ c.column.ensures c.from-in-loop-i.ensures c.list_line-in-loop-i.ensures
 
 pub returns : goal.returns
 returns c = let e : c.loop-i.i ≡ c.args.p.size.n = omega arith in all_listed (listable c.args.p c.requires) (rw e at c.loop-i.invariant)

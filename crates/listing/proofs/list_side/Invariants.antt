@@ -8,6 +8,6 @@ use Rattle.listing.proofs.list_side.Given as goal
 
 abbrev pub invariant-loop-s : goal.invariant-loop-s
 invariant-loop-s l =
-    Adding l.lane.len l.lane.number l.lane.first l.words l.initial.st l.st
+    Adding l.lane l.words l.initial.st l.st
     (side_from l.lane.len (is_outside l.side) l.s (from_sum (l.want + 1)))
     (side_of l.lane.len (is_outside l.side) l.want)

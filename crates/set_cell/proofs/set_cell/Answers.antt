@@ -16,13 +16,12 @@ rest_of_half-requires c = ask_value c.requires
 
 pub returns-then-x-ge-BLACK1_ROW : goal.returns-then-x-ge-BLACK1_ROW
 returns-then-x-ge-BLACK1_ROW c =
-    set_struck c.requires c.rest_of_half.ensures
-    (rw c.row-row.ensures at c.clear_others.ensures) (rw c.column-column.ensures at c.clear_others-2.ensures) (rw c.cell.ensures at c.clear_mask.ensures)
-    (some_struck c.if-x-ge-BLACK1_ROW.true
-    (struck_both (rw c.row-row.ensures at c.clear_around.ensures) (rw c.column-column.ensures at c.clear_around-then-x-ge-BLACK1_ROW.ensures)))
+    set_struck _ _ c.requires c.row-row.ensures c.column-column.ensures c.rest_of_half.ensures
+    c.clear_others.ensures c.clear_others-2.ensures (rw c.cell.ensures at c.clear_mask.ensures)
+    (some_struck c.if-x-ge-BLACK1_ROW.true (struck_both c.clear_around.ensures c.clear_around-then-x-ge-BLACK1_ROW.ensures))
 
 pub returns-else-x-ge-BLACK1_ROW : goal.returns-else-x-ge-BLACK1_ROW
 returns-else-x-ge-BLACK1_ROW c =
-    set_struck c.requires c.rest_of_half.ensures
-    (rw c.row-row.ensures at c.clear_others.ensures) (rw c.column-column.ensures at c.clear_others-2.ensures) (rw c.cell.ensures at c.clear_mask.ensures)
+    set_struck _ _ c.requires c.row-row.ensures c.column-column.ensures c.rest_of_half.ensures
+    c.clear_others.ensures c.clear_others-2.ensures (rw c.cell.ensures at c.clear_mask.ensures)
     (none_struck _ _ _ (λ h. omega (arith, h)))

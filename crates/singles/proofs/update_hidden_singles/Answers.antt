@@ -3,10 +3,16 @@ use Rattle.singles.proofs.HiddenLaws.{row_places_ask, column_places_ask, hidden_
 use Rattle.singles.proofs.update_hidden_singles.Goals as goal
 
 pub update_places-requires : goal.update_places-requires
-update_places-requires c = rw c.row.ensures (row_places_ask c.requires)
+update_places-requires c = let e = c.row.ensures in rw (e.0, e.1, e.2, e.3, e.4) (row_places_ask c.requires)
 
 pub update_places-requires-2 : goal.update_places-requires-2
-update_places-requires-2 c = rw c.column.ensures (column_places_ask c.requires (rw c.row.ensures at c.update_places.ensures))
+update_places-requires-2 c =
+    let e = c.row.ensures in
+    let f = c.column.ensures in
+    rw (f.0, f.1, f.2, f.3, f.4) (column_places_ask c.requires (rw (e.0, e.1, e.2, e.3, e.4) at c.update_places.ensures))
 
 pub returns : goal.returns
-returns c = hidden_done c.requires (rw c.row.ensures at c.update_places.ensures) (rw c.column.ensures at c.update_places-2.ensures)
+returns c =
+    let e = c.row.ensures in
+    let f = c.column.ensures in
+    hidden_done c.requires (rw (e.0, e.1, e.2, e.3, e.4) at c.update_places.ensures) (rw (f.0, f.1, f.2, f.3, f.4) at c.update_places-2.ensures)
