@@ -27,7 +27,7 @@ fn advance(st: &mut [u16], words: &[u32], n: usize) -> Next
     requires { PropagateAsk n words.now st.old }
     ensures { Advanced n words.now st.old st.new result }
 {
-    if !propagate(st, words, n) {
+    if propagate(st, words, n).is_err() {
         return Next::Contradicted;
     }
     match pick_branch(st, n) {

@@ -44,9 +44,8 @@ use Rattle.written.proofs.MaskLaws.{published_table}
 use Rattle.prepare.specs.Prepared.{Marked}
 use Rattle.engine.proofs.CountLaws.{count_left}
 use Rattle.engine.proofs.SolveLaws.{SolveAsk, solve_small}
-use Rattle.candidates.specs.declared.Outcome.{Outcome}
 use Rattle.candidates.specs.declared.Outcome.TheVariants.{Contradicted, Written}
-use Rattle.candidates.specs.Remaining.{Remaining, WrittenTable, TableGiven, Tabled}
+use Rattle.candidates.specs.Remaining.{Remaining, WrittenTable, TableGiven}
 use Rattle.candidates.proofs.SameClosed.{closed_same}
 
 -- ---- a value that is alone in its half is there
@@ -215,7 +214,9 @@ table_refused k d =
       answered = λ e. let z : ◌≡◌ {A = Result ⊤ Refusal} (Err k) (Ok tt) = d ∙ e in cc;
     }
 
-pub table_given : {u : Unit} {p : Puzzle} {ms table table' : List ℕ} (o : Outcome) → Ok tt ≡ checked (solve_checks u p ms (length table)) →
-    Tabled p ms o table table' → TableGiven u p ms (Ok o) table table'
-table_given Written d t = record { refused = λ k x. let z : Ok tt ≡ Err k = d ∙ x in cc; answered = λ _. inl (refl, t) }
-table_given Contradicted d t = record { refused = λ k x. let z : Ok tt ≡ Err k = d ∙ x in cc; answered = λ _. inr (refl, t.0, t.1) }
+module _ {u : Unit} {p : Puzzle} {ms table table' : List ℕ} (d : Ok tt ≡ checked (solve_checks u p ms (length table))) where
+  pub table_given : WrittenTable p ms table' → TableGiven u p ms (Ok Written) table table'
+  table_given t = record { refused = λ k x. let z : Ok tt ≡ Err k = d ∙ x in cc; answered = λ _. inl (refl, t) }
+
+  pub table_none : (number p ms ≡ 0) × (table' ≡ table) → TableGiven u p ms (Ok Contradicted) table table'
+  table_none t = record { refused = λ k x. let z : Ok tt ≡ Err k = d ∙ x in cc; answered = λ _. inr (refl, t.0, t.1) }

@@ -1,6 +1,6 @@
 -- The answer of Candidates, and what the table that it writes owes. Which candidates remain beyond that, and whether a contradiction is seen, is left
 -- open. Assumes nothing.
-use Rattle.std.specs.Prelude.{ℕ, ◌*◌, ◌<◌, ◌≡◌, true, false, ◌≢◌, ◌⊎◌, length, Result, Ok, Err}
+use Rattle.std.specs.Prelude.{⊤, ℕ, ◌*◌, ◌<◌, ◌≡◌, true, false, ◌≢◌, ◌⊎◌, length, Result, Ok, Err}
 use mathlib.Core.List.{List, Memᴰ}
 use Rattle.tally.specs.Tally.{any}
 use Rattle.refusal.specs.declared.Refusal.{Refusal}
@@ -43,6 +43,6 @@ pub record TableGiven (u : Unit) (p : Puzzle) (ms : List ℕ) (answer : Result O
       ((answer ≡ Ok Written) × WrittenTable p ms table') ⊎ ((answer ≡ Ok Contradicted) × (number p ms ≡ 0) × (table' ≡ table))
 
 -- The table is written, or no grid is left and the buffer is as it was.
-abbrev pub Tabled : Puzzle → List ℕ → Outcome → List ℕ → List ℕ → Type 0
-Tabled p ms Written table table' = WrittenTable p ms table'
-Tabled p ms Contradicted table table' = (number p ms ≡ 0) × (table' ≡ table)
+abbrev pub Tabled : {E : Type 0} → Puzzle → List ℕ → Result ⊤ E → List ℕ → List ℕ → Type 0
+Tabled p ms (Ok _) table table' = WrittenTable p ms table'
+Tabled p ms (Err _) table table' = (number p ms ≡ 0) × (table' ≡ table)

@@ -10,7 +10,7 @@ ghost use Rattle.candidates.specs.Remaining.{TableGiven, Tabled};
 
 use engine::check_solve;
 use prepare::{Question, prepare};
-use propagate::propagate;
+use propagate::{Contradicted, propagate};
 use queue_state::Slab;
 use refusal::Refusal;
 use units::Unit;
@@ -25,22 +25,16 @@ pub enum Outcome {
 }
 
 // Writes the table of a question, unless a cell is left without candidates.
-fn write_table(q: Question, table: &mut [u16]) -> Outcome
+fn write_table(q: Question, table: &mut [u16]) -> Result<(), Contradicted>
     requires { length table.old ≡ q.puzzle.size.n * q.puzzle.size.n }
     ensures { Tabled (puzzle_of q.entry.puzzle) (marks_of q.entry.marks.now) result table.old table.new }
 {
     let mut st = [0u16; Slab::SIZE];
     let mut words = [0u32; ROOM];
-    let prepared = prepare(&mut st, &mut words, q);
-    if !prepared {
-        return Outcome::Contradicted;
-    }
-    let rests = propagate(&mut st, &words, q.puzzle.size.n);
-    if !rests {
-        return Outcome::Contradicted;
-    }
+    prepare(&mut st, &mut words, q)?;
+    propagate(&mut st, &words, q.puzzle.size.n)?;
     write_candidates(&st, q.puzzle.size.n, table);
-    Outcome::Written
+    Ok(())
 }
 
 // The candidates that are left of a puzzle and marks, n * n masks row by row, unless a cell is left with none.
@@ -56,5 +50,8 @@ pub fn candidates(
         result table.old table.new }
 {
     let question = check_solve(unit, size, rows, columns, marks, table.len())?;
-    Ok(write_table(question, table))
+    match write_table(question, table) {
+        Ok(()) => Ok(Outcome::Written),
+        Err(Contradicted) => Ok(Outcome::Contradicted),
+    }
 }

@@ -50,7 +50,7 @@ fn find_grids(q: Question, max: u64, wanted: bool, cells: &mut [u8]) -> u64
 {
     let mut st = [0u16; Slab::SIZE];
     let mut words = [0u32; ROOM];
-    if !prepare(&mut st, &mut words, q) {
+    if prepare(&mut st, &mut words, q).is_err() {
         return 0;
     }
     search(&mut st, &words, q.puzzle.size.n, max, wanted, cells)

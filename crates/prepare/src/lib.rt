@@ -1,7 +1,7 @@
 // The state of a puzzle after its marks: opened, propagated once as the Rust's constructor does, and marked.
 #![tactic(auto)]
 
-ghost use Rattle.std.specs.Prelude.{◌≡◌, length};
+ghost use Rattle.std.specs.Prelude.{◌≡◌, is_ok, length};
 ghost use Rattle.rules.specs.Mark.{marks_of};
 ghost use Rattle.rules.specs.Check.{refusal};
 ghost use Rattle.rules.specs.CheckParts.{mark_checks};
@@ -12,7 +12,7 @@ ghost use Rattle.prepare.specs.Prepared.{Prepared};
 use apply_marks::apply_marks;
 use fresh::fresh;
 use opening::open;
-use propagate::propagate;
+use propagate::{Contradicted, propagate};
 use puzzle::Puzzle;
 use words::fill_words;
 
@@ -24,18 +24,16 @@ pub struct Question<'a> {
     pub ghost marks_pass: { refusal (mark_checks puzzle.size.n (marks_of marks.now)) ≡ 0 },
 }
 
-// False if a cell is empty before the marks, so that no grid is left.
-pub fn prepare(st: &mut [u16], words: &mut [u32], q: Question) -> bool
+// The state of a question, unless a cell is left without candidates before the marks, so that no grid is left.
+pub fn prepare(st: &mut [u16], words: &mut [u32], q: Question) -> Result<(), Contradicted>
     requires { (length words.old ≡ 1152) × Blank st.old }
-    ensures { Prepared (puzzle_of q.entry.puzzle) (marks_of q.entry.marks.now) words.new st.new result }
+    ensures { Prepared (puzzle_of q.entry.puzzle) (marks_of q.entry.marks.now) words.new st.new (is_ok result) }
 {
     let size = q.puzzle.size;
     fill_words(words, size);
     fresh(st, size);
     open(st, words, q.puzzle);
-    if !propagate(st, words, size.n) {
-        return false;
-    }
+    propagate(st, words, size.n)?;
     apply_marks(st, size.n, q.marks);
-    true
+    Ok(())
 }

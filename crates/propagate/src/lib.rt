@@ -1,6 +1,7 @@
 // Propagation (in the Rust: run and its handlers): the strikes are handled in the order in which they were made, until none waits or a cell is empty.
 #![tactic(auto)]
 
+ghost use Rattle.std.specs.Prelude.{is_ok};
 ghost use Rattle.invariants.specs.State.{PropagateAsk, Propagated};
 ghost use Rattle.propagate.specs.Update.{UpdateAsk, UpdateDone};
 
@@ -8,6 +9,10 @@ use arcs::update_arc;
 use queue_state::Slab;
 use singles::{update_black_consistency, update_hidden_singles, update_singleton};
 use value::Candidate;
+
+// A cell is left without candidates.
+#[derive(Clone, Copy, Debug, PartialEq, Eq)]
+pub struct Contradicted;
 
 // All handlers of a strike.
 fn update(st: &mut [u16], words: &[u32], n: usize, x: Candidate)
@@ -20,21 +25,21 @@ fn update(st: &mut [u16], words: &[u32], n: usize, x: Candidate)
     update_arc(st, words, n, x);
 }
 
-// Whether propagation came to rest; if not, a cell has no candidate. The queue grows while it is handled, so that no range says its end: a `while`.
-pub fn propagate(st: &mut [u16], words: &[u32], n: usize) -> bool
+// Propagates until no strike waits, unless a cell is left without candidates. The queue grows while it is handled, so that no range says its end: a `while`.
+pub fn propagate(st: &mut [u16], words: &[u32], n: usize) -> Result<(), Contradicted>
     requires { PropagateAsk n words.now st.old }
-    ensures { Propagated n st.old st.new result }
+    ensures { Propagated n st.old st.new (is_ok result) }
 {
     let mut head = 0;
     while head < usize::from(st[Slab::TAIL]) {
         let strike = usize::from(st[Slab::QUEUE + head]);
         let cell = strike / 16;
         if st[cell] == 0 {
-            return false;
+            return Err(Contradicted);
         }
         update(st, words, n, Candidate::at(cell, strike % 16));
         head += 1;
     }
     st[Slab::TAIL] = 0;
-    true
+    Ok(())
 }

@@ -8,11 +8,11 @@ use Rattle.engine.proofs.find_grids.Goals as goal
 pub prepare-requires : goal.prepare-requires
 prepare-requires c = (search rules, blank_zeros)
 
-pub returns-then-not-prepare : goal.returns-then-not-prepare
-returns-then-not-prepare c = found_none (question_asks c.args.q) c.prepare.ensures c.if-not-prepare.true
+pub returns-then-is_err : goal.returns-then-is_err
+returns-then-is_err c = found_none (question_asks c.args.q) c.prepare.ensures c.if-is_err.ensures.negation
 
 pub search-requires : goal.search-requires
-search-requires c = found_search (question_asks c.args.q) (c.prepare.ensures.marked c.if-not-prepare.false) c.requires
+search-requires c = found_search (question_asks c.args.q) (c.prepare.ensures.marked c.if-is_err.ensures.negation) c.requires
 
 pub returns : goal.returns
-returns c = found_grids (question_asks c.args.q) (c.prepare.ensures.marked c.if-not-prepare.false) c.search.ensures
+returns c = found_grids (question_asks c.args.q) (c.prepare.ensures.marked c.if-is_err.ensures.negation) c.search.ensures

@@ -1,4 +1,6 @@
 -- `prepare::prepare` meets its contract. Assumes nothing.
+use mathlib.Core.Path.{refl}
+use Rattle.std.proofs.lemmas.Result.{err_from_is_err_and}
 use Rattle.prepare.proofs.PrepareLaws.{asked, prepare_open, prepare_propagable, prepare_none, prepare_marks, prepare_done}
 use Rattle.prepare.proofs.prepare.Goals as goal
 
@@ -14,15 +16,17 @@ open-requires c = prepare_open (asked c.args.q c.requires) c.fill_words.ensures 
 pub propagate-requires : goal.propagate-requires
 propagate-requires c = prepare_propagable (asked c.args.q c.requires) c.fill_words.ensures c.fresh.ensures c.open.ensures
 
-pub returns-then-not-propagate : goal.returns-then-not-propagate
-returns-then-not-propagate c = prepare_none (asked c.args.q c.requires) c.fill_words.ensures c.fresh.ensures c.open.ensures c.propagate.ensures c.if-not-propagate.true
+pub returns-in_err-propagate : goal.returns-in_err-propagate
+returns-in_err-propagate c =
+    let p = err_from_is_err_and c.from_residual.result c.from_residual.ensures.1 in
+    rw p.1 (prepare_none (asked c.args.q c.requires) c.fill_words.ensures c.fresh.ensures c.open.ensures c.in_err-propagate.ensures refl)
 
 pub apply_marks-requires : goal.apply_marks-requires
 apply_marks-requires c =
     record {
-      lagging = prepare_marks (asked c.args.q c.requires) c.fill_words.ensures c.fresh.ensures c.open.ensures c.propagate.ensures c.if-not-propagate.false;
+      lagging = prepare_marks (asked c.args.q c.requires) c.fill_words.ensures c.fresh.ensures c.open.ensures c.in_ok-propagate.ensures refl;
       accepted = c.args.q.marks_pass;
     }
 
 pub returns : goal.returns
-returns c = prepare_done (asked c.args.q c.requires) c.fill_words.ensures c.fresh.ensures c.open.ensures c.propagate.ensures c.if-not-propagate.false c.apply_marks.ensures
+returns c = prepare_done (asked c.args.q c.requires) c.fill_words.ensures c.fresh.ensures c.open.ensures c.in_ok-propagate.ensures refl c.apply_marks.ensures
