@@ -24,7 +24,7 @@ fn drop_support(st: &mut [u16], lane: Lane, p: usize, v: usize)
     }
 }
 
-// The supports of a set of digits fall at one place.
+// The supports of a set of digits fall at one place. (listing's `add_digits` has another step: with a closure for it the loop would be longer than twice.)
 fn drop_digits(st: &mut [u16], lane: Lane, p: usize, set: u16)
     requires { DigitsAsk lane p set st.old }
     ensures { Sunk (masked (lane.number * 9 + p) set) st.old st.new }
@@ -50,7 +50,7 @@ fn drop_inner(st: &mut [u16], lane: Lane, w: u32)
     let set = words::set_of(w);
     let to = words::to_of(w);
     let mut p = next_place(lane.len, words::from_of(w));
-    // A while, since the walk may go around the line's end: a count would need the same step, and how many steps there are.
+    // A while, from the head on, which may go around the line's end: strikes are in the Rust's order, and the bits of the inner places are in another.
     while p != to {
         drop_digits(st, lane, p, set);
         p = next_place(lane.len, p);

@@ -48,6 +48,7 @@ fn find_grids(q: Question, max: u64, wanted: bool, cells: &mut [u8]) -> u64
     requires { wanted ≡ true → length cells.old ≡ q.puzzle.size.n * q.puzzle.size.n }
     ensures { Found (puzzle_of q.entry.puzzle) (marks_of q.entry.marks.now) max wanted result cells.old cells.new }
 {
+    // Made here and in candidates: given by a function, both would be copied.
     let mut st = [0u16; Slab::SIZE];
     let mut words = [0u32; ROOM];
     if prepare(&mut st, &mut words, q).is_err() {

@@ -1,3 +1,4 @@
 pub mod Agreement
 pub mod SolverAgreement
 pub mod Replay
+pub mod Walk

@@ -1,7 +1,10 @@
 -- What it means that the solver answers as a record says. A count has to be what the definitions give. Where a promise leaves open what a call writes,
 -- the record has to have what the call wrote, and that keeps the promise. Assumes nothing.
-use Rattle.std.specs.Prelude.{ℕ, ◌≤◌, ◌<◌, ◌≡◌, Bool, false, List, length, Result}
+use Rattle.std.specs.Prelude.{⊤, ℕ, ◌≤◌, ◌<◌, ◌≡◌, Bool, false, List, length, Result}
 use Rattle.refusal.specs.declared.Refusal.{Refusal}
+use Rattle.std.specs.Fn.{Once}
+use denote.Ref.{Bor, MutBor}
+use Rattle.units.specs.declared.Unit.{Unit}
 use Rattle.units.specs.Limits.{hall}
 use Rattle.rules.specs.Grid.{Puzzle, puzzle}
 use Rattle.rules.specs.Mark.{marks_of}
@@ -47,6 +50,19 @@ pub record Compared (r : Bool) (Promised : ℕ → List ℕ → Type 0) (xs : Li
 pub record FittingCompared (r : Bool) (Promised : ℕ → List ℕ → Type 0) (xs : List ℕ) : Type 0 where
   pub long : 256 < length (field xs 4) → r ≡ false
   pub short : length (field xs 4) ≤ 256 → Compared r Promised xs
+
+-- A call of the host on the fields of a record gives a number and leaves a buffer.
+pub record CallGives
+    {F : Type 0} (g : Once F (Unit × (ℕ × (Bor (List ℕ) × (Bor (List ℕ) × (Bor (List ℕ) × (MutBor (List ℕ) × ⊤)))))) (ℕ × (MutBor (List ℕ) × ⊤)))
+    (f : F) (xs : List ℕ) (number : ℕ) (after : List ℕ) : Type 0 where
+  pub rows : Bor (List ℕ)
+  pub columns : Bor (List ℕ)
+  pub marks : Bor (List ℕ)
+  pub shown : MutBor (List ℕ)
+  pub left : MutBor (List ℕ)
+  pub shows : (rows.now ≡ field xs 1) × (columns.now ≡ field xs 2) × (marks.now ≡ field xs 3) × (shown.now ≡ field xs 4)
+  pub met : g.post f (hall, (record_size xs, (rows, (columns, (marks, (shown, tt)))))) (number, (left, tt))
+  pub leaves : left.now ≡ after
 
 -- What Candidates promises of its number and of the table, before and afterwards.
 abbrev pub TablePromised : List ℕ → List ℕ → ℕ → List ℕ → Type 0

@@ -5,9 +5,11 @@
 mod calls;
 mod solver_calls;
 
-ghost use Rattle.std.specs.Prelude.{◌≡◌, ◌+◌, ◌<◌, ◌^◌, not, length, MatchOption};
+ghost use Rattle.std.specs.Prelude.{◌≡◌, ◌+◌, ◌-◌, ◌<◌, ◌^◌, not, length, MatchOption};
+ghost use Rattle.std.specs.Iterator.{at_most};
 ghost use Rattle.record_fields.specs.Calls.{tag_of};
 ghost use Rattle.replay_records.specs.Replay.{FindsAs, Replayed, as_number, RecordsTallied, FirstDifference};
+ghost use Rattle.replay_records.specs.Walk.{NextRecord};
 
 use arrayvec::ArrayVec;
 use calls::{line_check_agrees, mark_sheet_agrees, target_sums_agree};
@@ -77,6 +79,31 @@ pub fn replay(list: &[u8]) -> Outcome
     }
 }
 
+// The records of a list from a place on, one after the other: where each begins, and what replaying it found.
+#[derive(Drop)]
+struct Records<'a> {
+    list: &'a [u8],
+    at: usize,
+}
+
+impl<'a> Iterator for Records<'a> {
+    type Item = (usize, Outcome);
+
+    ghost next_gives = { NextRecord };
+
+    ghost remaining = { λ s. at_most (length s.list.now - s.at) };
+
+    fn next(&mut self) -> Option<(usize, Outcome)> {
+        let at = self.at;
+        if self.list.len() <= at {
+            return None;
+        }
+        let outcome = replay(&self.list[at..]);
+        self.at += outcome.length;
+        Some((at, outcome))
+    }
+}
+
 // How many records of a list are wanted, and in how many of these the engine answers otherwise. A record is asked for by its call, and what cannot be
 // read by none.
 pub fn replay_list<F: Fn(Option<Call>) -> bool>(list: &[u8], wanted: F) -> Tally
@@ -84,14 +111,10 @@ pub fn replay_list<F: Fn(Option<Call>) -> bool>(list: &[u8], wanted: F) -> Tally
     ensures { RecordsTallied (F.post wanted) result.replayed result.differ list.now }
 {
     let mut tally = Tally::default();
-    let mut rest = list;
-    // A while, here and in first_difference: where the next record begins is known once this one is read.
-    while !rest.is_empty() {
-        let outcome = replay(rest);
+    for (_, outcome) in (Records { list, at: 0 }) {
         if wanted(outcome.call) {
             tally.add(outcome.agrees);
         }
-        rest = &rest[outcome.length..];
     }
     tally
 }
@@ -100,13 +123,10 @@ pub fn replay_list<F: Fn(Option<Call>) -> bool>(list: &[u8], wanted: F) -> Tally
 pub fn first_difference(list: &[u8]) -> Option<usize>
     ensures { MatchOption result (FirstDifference (length list.now) list.now) (λ at. (at < length list.now) × FirstDifference at list.now) }
 {
-    let mut at = 0;
-    while at < list.len() {
-        let outcome = replay(&list[at..]);
+    for (at, outcome) in (Records { list, at: 0 }) {
         if !outcome.agrees {
             return Some(at);
         }
-        at += outcome.length;
     }
     None
 }

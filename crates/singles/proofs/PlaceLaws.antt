@@ -194,6 +194,9 @@ module _ {n counter start stride v : ℕ} {own : Bool} {l : List ℕ} (a : Place
           }
 
       module _ {p : ℕ} (g : PlaceFound l₁ n start stride v (Some p)) where
+        pub place_low : p < 9
+        place_low = omega (arith, g.0, high a.ready a.counted)
+
         pub place_set_ask : SetAsk n l₁ ((start + p * stride) / 9) ((start + p * stride) % 9) v
         place_set_ask = place_ask a.ready a.counted t fell_one g
 

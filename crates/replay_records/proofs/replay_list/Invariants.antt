@@ -1,10 +1,8 @@
--- What holds in the loop of `replay_records::replay_list`, and why it ends.
-use Rattle.std.proofs.Common.{length}
+-- What holds in the loop of `replay_records::replay_list`.
+use Rattle.std.proofs.Common.{◌≡◌, drop}
 use Rattle.replay_records.proofs.ReplayLaws.{Completes}
 use Rattle.replay_records.proofs.replay_list.Given as goal
 
-abbrev pub invariant-loop-rest : goal.invariant-loop-rest
-invariant-loop-rest g l = Completes (goal.F-post g l.wanted) l.list l.rest l.tally
-
-abbrev pub decreases-loop-rest : goal.decreases-loop-rest
-decreases-loop-rest g l = length l.rest
+abbrev pub invariant-loop-outcome : goal.invariant-loop-outcome
+invariant-loop-outcome g l =
+    (l.outcome-iterator.list.now ≡ l.list) × Completes (goal.F-post g l.wanted) l.list (drop l.outcome-iterator.at l.list) l.tally

@@ -2,7 +2,7 @@
 use native.Mathlib.Omega.{arith}
 use mathlib.Core.Path.{sym}
 use Rattle.lane.proofs.LaneLaws.{lane_in}
-use Rattle.singles.proofs.PlaceLaws.{places_passed, places_lower, places_more, find_ask, places_empty, place_set_ask, place_settled}
+use Rattle.singles.proofs.PlaceLaws.{places_passed, places_lower, places_more, find_ask, places_empty, place_low, place_set_ask, place_settled}
 use Rattle.singles.proofs.update_places.Goals as goal
 use Rattle.singles.proofs.update_places.Goals.{else-has-via-then-has+else-lower-eq1, else-has-via-else-has}
 
@@ -16,7 +16,7 @@ pub find_place-requires : goal.find_place-requires
 find_place-requires c = find_ask c.requires (sym c.if-has.ensures) c.lower.ensures
 
 pub cell-requires : goal.cell-requires
-cell-requires c = lane_in c.args.lane _ (omega (arith, c.in-Some.ensures, c.requires.ready.size.high))
+cell-requires c = lane_in c.args.lane _ (place_low c.requires (sym c.if-has.ensures) c.lower.ensures c.in-Some.ensures)
 
 pub set_cell-requires : goal.set_cell-requires
 set_cell-requires c = rw (c.at.ensures, c.cell.ensures) (place_set_ask c.requires (sym c.if-has.ensures) c.lower.ensures c.in-Some.ensures)
