@@ -34,7 +34,7 @@ fn drop_digits(st: &mut [u16], lane: Lane, p: usize, set: u16)
     }
 }
 
-// The next place of a line, wrapping.
+// The next place of a line, wrapping. It takes the line's length alone: a lane says no more of it.
 fn next_place(n: usize, p: usize) -> usize
     requires { (p < n) × (n ≤ 9) }
     ensures { result ≡ after n p }

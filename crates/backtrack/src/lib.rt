@@ -14,7 +14,7 @@ use set_cell::set_cell;
 use value::Candidate;
 use written::write_grid;
 
-// What a step forward found: no grid, one, or a candidate to branch on.
+// What a step forward found: no grid, one, or a candidate to branch on. Three cases by their names, and no Option in a Result, which would name two of them.
 #[derive(Clone, Copy, Debug, PartialEq, Eq)]
 pub enum Next {
     Contradicted,

@@ -17,7 +17,7 @@ use units::Unit;
 use words::ROOM;
 use written::write_candidates;
 
-// Whether the table was written, or a cell was left with no candidate.
+// Whether the table was written, or a cell was left with no candidate. No Result in a Result: a contradiction is an answer of the call, and no refusal.
 #[derive(Clone, Copy, Debug, PartialEq, Eq)]
 pub enum Outcome {
     Contradicted,

@@ -51,7 +51,7 @@ fn write_rows<T: Copy, F: Fn(usize, usize) -> T>(table: &mut [T], n: usize, entr
     requires size { length table.old ≡ n * n }
     ensures { (r c : ℕ) (d : T) → r < n → c < n → F.post entry r c (slice_index_or table.new (r * n + c) d) }
 {
-    // By number: `chunks_exact_mut` asks that n is not 0.
+    // By number, which the entries are asked by.
     for r in 0..n {
         write_row(&mut table[r * n..r * n + n], r, &entry);
     }
