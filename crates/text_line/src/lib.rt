@@ -45,14 +45,7 @@ fn solve_targets<const N: usize>(
     ensures { PuzzleText (puzzle size.n (take size.n targets.now) (drop size.n targets.now)) out.old.items out.new.items }
 {
     let n = size.n;
-    let answer = solve(
-        Unit::hall(),
-        n,
-        &targets[..n],
-        &targets[n..],
-        &targets[..0],
-        cells,
-    );
+    let answer = solve(Unit::hall(), n, &targets[..n], &targets[n..], &[], cells);
     write_answer(answer, n, cells, out);
 }
 
