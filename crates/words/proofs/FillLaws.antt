@@ -12,9 +12,9 @@ use Rattle.words.specs.Word.{subset, mask_in, size_in, Known, word_from, word_of
 use Rattle.words.proofs.WordFacts.{subset_fits}
 use Rattle.words.specs.Fill.{FillAsk, Filling, WordsFilled}
 
-module _ {n s x : ℕ} {ws₀ : List ℕ} (a : FillAsk n s x ws₀) where
+module _ {n s x : ℕ} {ws₀ : List ℕ} (z : Size n) (a : FillAsk n s x ws₀) where
   pub fill_room : x / 8192 + 2 ≤ n
-  fill_room = rw a.code (subset_fits s a.among n a.size (rw a.code at a.digits))
+  fill_room = rw a.code (subset_fits s a.among n z (rw a.code at a.digits))
 
   pub filling_next : (k len w : ℕ) (ws : List ℕ) → len ≡ x / 8192 → k < n → w ≡ word_from n (x % 256) len k → Filling n s k ws₀ ws →
       Filling n s (k + 1) ws₀ (set ws (s * 9 + k) w)
@@ -29,13 +29,13 @@ module _ {n s x : ℕ} {ws₀ : List ℕ} (a : FillAsk n s x ws₀) where
     where
       there : w ≡ word_from n (mask_in ((s * 9 + k) / 9)) (size_in ((s * 9 + k) / 9)) ((s * 9 + k) % 9)
       there =
-          let p : (s * 9 + k) / 9 ≡ s = omega (arith, a.size.high) in
-          let q : (s * 9 + k) % 9 ≡ k = omega (arith, a.size.high) in
+          let p : (s * 9 + k) / 9 ≡ s = omega (arith, z.high) in
+          let q : (s * 9 + k) % 9 ≡ k = omega (arith, z.high) in
           rw (p, q, ← a.code, ← f) e
 
       one : (i : ℕ) → i < k + 1 → Dec (i ≡ k) → get_or (set ws (s * 9 + k) w) (s * 9 + i) 0
           ≡ word_from n (mask_in ((s * 9 + i) / 9)) (size_in ((s * 9 + i) / 9)) ((s * 9 + i) % 9)
-      one i l (yes q) = rw q (get_or-set_same ws (s * 9 + k) w 0 (omega (arith, g.long, a.among, a.size.high)) ∙ there)
+      one i l (yes q) = rw q (get_or-set_same ws (s * 9 + k) w 0 (omega (arith, g.long, a.among, z.high)) ∙ there)
       one i l (no q) = get_or-set_other ws (s * 9 + k) (s * 9 + i) w 0 (λ r. omega arith) ∙ g.each i (omega arith)
 
 -- the words of the subsets below s are there
@@ -49,7 +49,7 @@ top_is n z = shl_one (n - 1) (omega (arith, z.high))
 
 module _ {n s : ℕ} {ws : List ℕ} (z : Size n) (g : FilledTo n s ws) (h : s < 128) where
   pub filled_ask : subset s % 256 < 1 * 2 ^ (n - 1) % 65536 → FillAsk n s (subset s) ws
-  filled_ask t = record { size = z; among = h; code = refl; digits = rw (top_is n z) at t; long = g.long }
+  filled_ask t = record { among = h; code = refl; digits = rw (top_is n z) at t; long = g.long }
 
   pub filled_next : {ws' : List ℕ} → WordsFilled n s ws ws' → FilledTo n (s + 1) ws'
   filled_next {ws'} f = record { long = f.long; each = λ id l y. one id l y (dec_lt id (s * 9)) }

@@ -1,11 +1,9 @@
 -- Filling the list of words, subset by subset. Assumes nothing.
 use Rattle.std.specs.Prelude.{ℕ, ◌+◌, ◌-◌, ◌*◌, ◌%◌, ◌^◌, ◌≤◌, ◌<◌, ◌≡◌, List, length, get_or}
-use Rattle.rules.specs.Size.{Size}
 use Rattle.words.specs.Word.{subset, word_of}
 
 -- subset s is one of the digits of size n, and x is its code
 pub record FillAsk (n s x : ℕ) (ws : List ℕ) : Type 0 where
-  pub size : Size n
   pub among : s < 128
   pub code : x ≡ subset s
   pub digits : x % 256 < 2 ^ (n - 1)

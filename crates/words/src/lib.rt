@@ -79,7 +79,7 @@ pub fn second_of(w: u32) -> usize
 pub fn covered(w: u32) -> u32
     ensures { result ≡ covered_of w }
 {
-    (w / 256 % 512) | (1u32 << first_of(w)) | (1u32 << second_of(w))
+    u32::from(inner_of(w)) | (1u32 << first_of(w)) | (1u32 << second_of(w))
 }
 
 // Whether it begins with the second black, around the line's end.
@@ -137,7 +137,7 @@ pub fn black_shift(first: usize, v: usize) -> u32
     if v == first { 17 } else { 21 }
 }
 
-// The places between the ends.
+// The places between the ends. The size, the length and the start go one by one: they meet here, in `word` and in listing alone.
 fn inner_places(size: GridSize, len: usize, start: usize) -> u32
     requires { (len + 2 ≤ size.n) × (start < size.n) }
     ensures are { result ≡ inner_places size.n len start }
