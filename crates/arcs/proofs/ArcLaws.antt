@@ -23,10 +23,10 @@ use Rattle.arcs.proofs.PrunedLaws.{line_tallied, line_alive, line_pruned, pruned
 
 -- ---- the two lines of a cell
 
-module _ {n : ℕ} {ws l : List ℕ} {r c v : ℕ} (a : ArcAsk n ws l r c v) where
-  narrow : v < 12
+module _ {n : ℕ} {l : List ℕ} {r c v : ℕ} (a : ArcAsk n l r c v) where
+  arc_narrow : v < 12
   unfolding ValueOf
-  narrow = ⊎_elim (λ h. omega (arith, h.1, a.ready.size.high)) (λ h. h.1) a.value
+  arc_narrow = ⊎_elim (λ h. omega (arith, h.1, a.ready.size.high)) (λ h. h.1) a.value
 
   high : n ≤ 9
   high = a.ready.size.high
@@ -51,40 +51,35 @@ module _ {n : ℕ} {ws l : List ℕ} {r c v : ℕ} (a : ArcAsk n ws l r c v) whe
   column_cell : cell_at (9 + c) r ≡ r * 9 + c
   column_cell = cell_column (9 + c) r (omega arith) ∙ omega arith
 
-  pub row_ask : {lane : Lane} → RowLane n r lane → LineAsk lane c v ws l
+  pub row_ask : {lane : Lane} → RowLane n r lane → LineAsk lane c v l
   row_ask e =
       record {
         ready = rw e.4 a.ready;
-        words = rw e.4 a.words;
-        of = rw (e.0, e.4) row_of;
         place = rw e.4 a.column;
-        narrow = omega (arith, narrow);
+        narrow = omega (arith, arc_narrow);
         gone = rw e.0 (ap (λ x. cand l x v) row_cell ∙ a.gone);
         tallied = rw (e.0, e.4) (a.tallied r row_of);
       }
 
-  column_ask : {lane : Lane} → ColumnLane n c lane → LineAsk lane r v ws l
+  column_ask : {lane : Lane} → ColumnLane n c lane → LineAsk lane r v l
   column_ask e =
       record {
         ready = rw e.4 a.ready;
-        words = rw e.4 a.words;
-        of = rw (e.0, e.4) column_of;
         place = rw e.4 a.row;
-        narrow = omega (arith, narrow);
+        narrow = omega (arith, arc_narrow);
         gone = rw e.0 (ap (λ x. cand l x v) column_cell ∙ a.gone);
         tallied = rw (e.0, e.4) (a.tallied (9 + c) column_of);
       }
 
   -- a line that is handled leaves the other one as it has to be
-  arc_next : {l' : List ℕ} → LineDone n r c v l l' → ArcAsk n ws l' r c v
+  arc_next : {l' : List ℕ} → LineDone n r c v l l' → ArcAsk n l' r c v
   arc_next d =
       record {
         ready = ready_grown d.grown a.ready;
-        words = a.words;
         row = a.row;
         column = a.column;
         value = a.value;
-        gone = grown_gone d.grown (r * 9 + c) v (omega (arith, narrow)) a.gone;
+        gone = grown_gone d.grown (r * 9 + c) v (omega (arith, arc_narrow)) a.gone;
         tallied = line_tallied a.ready.size a.ready.sized.size row_of a.tallied d;
       }
 
@@ -139,17 +134,17 @@ module _ {n : ℕ} {ws l : List ℕ} {r c v : ℕ} (a : ArcAsk n ws l r c v) whe
             (first (9 + c) h column_of (λ q. omega (arith, r_low)) (omega (arith, x.waiting)) (g (9 + c) column_of).alive))
         alive h x g m o (no e) (no i) =
             let n₁ = next_grown d.grown x in
-            clear_alive n m h (r * 9 + c) v (next_grown f.grown n₁) (omega (arith, narrow)) (clear_far m (line_in a.ready.size o) e i)
+            clear_alive n m h (r * 9 + c) v (next_grown f.grown n₁) (omega (arith, arc_narrow)) (clear_far m (line_in a.ready.size o) e i)
             (second m h o i (omega (arith, n₁.waiting)) (first m h o e (omega (arith, x.waiting)) (g m o).alive))
 
 -- ---- as the code does it: the row, then the column
 
-module _ {n : ℕ} {ws l l₁ : List ℕ} {r c v : ℕ} (row column : Lane) (a : ArcAsk n ws l r c v)
+module _ {n : ℕ} {l l₁ : List ℕ} {r c v : ℕ} (row column : Lane) (a : ArcAsk n l r c v)
     (e : RowLane n r row) (d : LineDone row.len row.number c v l l₁) (f : ColumnLane n c column) where
   row_done : LineDone n r c v l l₁
   row_done = rw (e.0, e.4) at d
 
-  pub arc_column : LineAsk column r v ws l₁
+  pub arc_column : LineAsk column r v l₁
   arc_column = column_ask (arc_next a row_done) f
 
   pub arc_done : {l₂ : List ℕ} → LineDone column.len column.number r v l₁ l₂ → ArcDone n l l₂ r c v

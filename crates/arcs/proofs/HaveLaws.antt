@@ -10,7 +10,7 @@ use lib.Pow.{shl_exact}
 use Rattle.bits.specs.Bit.{bit}
 use Rattle.bits.proofs.BitLaws.{bit_lt, bit_or_lem, bit_pow_same}
 use Rattle.lane.specs.declared.Lane.{Lane}
-use Rattle.arcs.specs.Have.{HaveAsk, Have}
+use Rattle.arcs.specs.Have.{Have}
 
 pub having_start : (lane : Lane) (v : ℕ) (l : List ℕ) → Have lane v l 0 0
 unfolding Have
@@ -28,10 +28,10 @@ one_bit b p h k =
         let f : b * 2 ^ p ≡ 2 ^ p = let o : b ≡ 1 = omega arith in rw o (omega arith) in
         rw f (omega (arith, bit_pow_same p))
 
-pub having_next : {lane : Lane} {v : ℕ} {l : List ℕ} {p x : ℕ} (have : ℕ) → HaveAsk lane v l → Have lane v l p have → p < 9 →
+pub having_next : (lane : Lane) (v : ℕ) (l : List ℕ) {p x : ℕ} (have : ℕ) → Have lane v l p have → p < 9 →
     x ≡ bit v (get_or l (lane.start + p * lane.stride) 0) → Have lane v l (p + 1) (bit_or have (x * 2 ^ p % 4294967296))
 unfolding Have
-having_next {lane} {v} {l} {p} {x} have a s h z = λ q k. go q k (ℕ_discrete q p)
+having_next lane v l {p} {x} have s h z = λ q k. go q k (ℕ_discrete q p)
   where
     y : ℕ
     y = x * 2 ^ p % 4294967296
@@ -46,6 +46,6 @@ having_next {lane} {v} {l} {p} {x} have a s h z = λ q k. go q k (ℕ_discrete q
     go q k (no e) = omega (arith, s q (omega arith), bit_or_lem q have y)
 
 -- those of nine places are those of a line's
-pub having_end : {lane : Lane} {v : ℕ} {l : List ℕ} (have : ℕ) → HaveAsk lane v l → Have lane v l 9 have → Have lane v l lane.len have
+pub having_end : (lane : Lane) (v : ℕ) (l : List ℕ) (have : ℕ) → lane.len ≤ 9 → Have lane v l 9 have → Have lane v l lane.len have
 unfolding Have
-having_end have a s = λ q k. s q (omega (arith, a.high))
+having_end lane v l have z s = λ q k. s q (omega (arith, z))

@@ -21,6 +21,7 @@ use Rattle.arcs.specs.Arc.{support}
 use Rattle.table.specs.Lines.{black_at}
 use Rattle.arcs.specs.Sunk.{Sunk, single, DropAsk}
 use Rattle.arcs.proofs.SunkLaws.{sunk_as, sunk_both}
+use Rattle.arrangements.specs.declared.Arrangement.{Arrangement}
 use Rattle.arcs.specs.Kill.{parts, inners, InnerAsk, KillAsk}
 
 pub black_low : (ℓ : ℕ) → 8 ≤ black_at ℓ
@@ -50,7 +51,13 @@ last_narrow : (k w : ℕ) → k ≤ 10 → last_of k w < 16
 unfolding last_of
 last_narrow k w h = elim (ℕ_discrete (w / 33554432) 0) [ yes e ↦ rw (eq-eqb _ _ e) (omega arith) | no e ↦ rw (ne_eqb _ _ e) (omega arith) ]
 
-module _ {w : ℕ} {lane : Lane} {l : List ℕ} (a : KillAsk lane w l) where
+module _ (arrangement : Arrangement) {l : List ℕ} (a : KillAsk arrangement.lane arrangement.word l) where
+  abbrev lane : Lane
+  lane = arrangement.lane
+
+  abbrev w : ℕ
+  w = arrangement.word
+
   abbrev n : ℕ
   n = lane.len
 
@@ -58,53 +65,53 @@ module _ {w : ℕ} {lane : Lane} {l : List ℕ} (a : KillAsk lane w l) where
   line = lane.number
 
   high : n ≤ 9
-  high = a.size.high
+  high = arrangement.fits.high
 
   from_narrow : from_of w < 9
-  from_narrow = omega (arith, high, a.shaped.from_in)
+  from_narrow = omega (arith, high, arrangement.shaped.from_in)
 
   to_narrow : to_of w < 9
-  to_narrow = omega (arith, high, a.shaped.to_in)
+  to_narrow = omega (arith, high, arrangement.shaped.to_in)
 
   -- the code's sums fit
   pub kill_black : lane.first < 16
   kill_black = omega (arith, lane.black, black_high line)
 
   from_to : from_of w ≡ to_of w → ⊥
-  from_to e = omega (arith, a.shaped.apart, steps_none n (from_of w), ap (steps n (from_of w)) e)
+  from_to e = omega (arith, arrangement.shaped.apart, steps_none n (from_of w), ap (steps n (from_of w)) e)
 
   from_outer : bit (from_of w) (inner_of w) ≡ 0
-  from_outer = a.shaped.beyond (from_of w) a.shaped.from_in (inl (steps_none n (from_of w)))
+  from_outer = arrangement.shaped.beyond (from_of w) arrangement.shaped.from_in (inl (steps_none n (from_of w)))
 
   to_outer : bit (to_of w) (inner_of w) ≡ 0
-  to_outer = a.shaped.beyond (to_of w) a.shaped.to_in (inr (omega arith))
+  to_outer = arrangement.shaped.beyond (to_of w) arrangement.shaped.to_in (inr (omega arith))
 
   -- the parts of the word: at its first end, at its last, between them, and elsewhere
   part_from : (v : ℕ) → part (black_at line) w (from_of w) v ≡ same v (head_of (black_at line) w)
   unfolding part same
-  part_from v = ap (λ b. cond b 1 0) (pattern_head n (black_at line) w a.shaped (black_low line) v)
+  part_from v = ap (λ b. cond b 1 0) (pattern_head n (black_at line) w arrangement.shaped (black_low line) v)
 
   part_to : (v : ℕ) → part (black_at line) w (to_of w) v ≡ same v (last_of (black_at line) w)
   unfolding part same
-  part_to v = ap (λ b. cond b 1 0) (pattern_last n (black_at line) w a.shaped (black_low line) v)
+  part_to v = ap (λ b. cond b 1 0) (pattern_last n (black_at line) w arrangement.shaped (black_low line) v)
 
   part_off : (q v : ℕ) → q < 9 → (q ≡ from_of w → ⊥) → (q ≡ to_of w → ⊥) → part (black_at line) w q v ≡ min (bit q (inner_of w)) (bit v (set_of w))
   part_off q v hq d e = go (dec_lt v 8)
     where
       far : Dec (q < n) → Dec (steps n (from_of w) (to_of w) < steps n (from_of w) q) → 8 ≤ v → part (black_at line) w q v ≡ 0
-      far (no i) _ h = part_none (black_at line) w q v (pattern_past n (black_at line) w a.shaped (black_low line) q v (omega arith) hq)
-      far (yes i) (yes j) h = part_none (black_at line) w q v (pattern_beyond n (black_at line) w a.shaped (black_low line) q v i j)
+      far (no i) _ h = part_none (black_at line) w q v (pattern_past n (black_at line) w arrangement.shaped (black_low line) q v (omega arith) hq)
+      far (yes i) (yes j) h = part_none (black_at line) w q v (pattern_beyond n (black_at line) w arrangement.shaped (black_low line) q v i j)
       far (yes i) (no j) h =
           part_none (black_at line) w q v
-          (pattern_inner_black n (black_at line) w a.shaped (black_low line) q i (near (ℕ_discrete (steps n (from_of w) q) 0))
+          (pattern_inner_black n (black_at line) w arrangement.shaped (black_low line) q i (near (ℕ_discrete (steps n (from_of w) q) 0))
           (short (ℕ_discrete (steps n (from_of w) q) (steps n (from_of w) (to_of w)))) v h)
         where
           near : Dec (steps n (from_of w) q ≡ 0) → 0 < steps n (from_of w) q
-          near (yes z) = absurd (d (steps_zero n (from_of w) q a.shaped.from_in i z))
+          near (yes z) = absurd (d (steps_zero n (from_of w) q arrangement.shaped.from_in i z))
           near (no z) = omega arith
 
           short : Dec (steps n (from_of w) q ≡ steps n (from_of w) (to_of w)) → steps n (from_of w) q < steps n (from_of w) (to_of w)
-          short (yes z) = absurd (e (steps_same n (from_of w) q (to_of w) a.shaped.from_in i a.shaped.to_in z))
+          short (yes z) = absurd (e (steps_same n (from_of w) q (to_of w) arrangement.shaped.from_in i arrangement.shaped.to_in z))
           short (no z) = omega arith
 
       go : Dec (v < 8) → part (black_at line) w q v ≡ min (bit q (inner_of w)) (bit v (set_of w))
@@ -129,8 +136,6 @@ module _ {w : ℕ} {lane : Lane} {l : List ℕ} (a : KillAsk lane w l) where
     kill_inner =
         record {
           sized = grown_sized s.grown a.sized;
-          size = a.size;
-          shaped = a.shaped;
           enough = λ q v i j. enough q v i j
               (ℕ_discrete q (from_of w)) (dec_lt v 8);
         }

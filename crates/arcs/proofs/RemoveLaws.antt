@@ -13,7 +13,7 @@ use Rattle.queue_state.specs.Layout.{counters_at, per_line, live_place, support_
 use Rattle.queue_state.specs.Slab.{cand, Grown}
 use Rattle.queue_state.proofs.StruckLaws.{grown_trans, grown_sized, grown_gone, set_cand, set_grown}
 use Rattle.lane.specs.declared.Lane.{Lane}
-use Rattle.words.specs.Word.{Known, word_of, part}
+use Rattle.words.specs.Word.{Known, Shaped, word_of, part}
 use Rattle.words.proofs.PatternLaws.{part_lt}
 use Rattle.words.proofs.WordLaws.{known_shaped}
 use Rattle.arcs.specs.Arc.{live, support, Tallied}
@@ -91,12 +91,13 @@ module _ {i len w : ℕ} {lane : Lane} {l : List ℕ} (a : RemoveAsk lane i len 
   unfolding f
   leaves p v = ap (λ x. part (black_at ℓ) x p v) a.word
 
+  pub remove_shaped : Shaped n w
+  remove_shaped = rw a.word (known_shaped n (live l ℓ i) a.ready.size leaving)
+
   kills : KillAsk lane w l₁
   kills =
       record {
         sized = grown_sized grown₁ a.ready.sized;
-        size = a.ready.size;
-        shaped = rw a.word (known_shaped n (live l ℓ i) a.ready.size leaving);
         enough = λ q v h k. omega (
           arith,
           support₁ (ℓ * 9 + q) v (omega (arith, remove_bounds.0)) k,

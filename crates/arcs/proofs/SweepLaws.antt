@@ -1,5 +1,5 @@
 -- The sweep of a line, one arrangement after the other. Assumes nothing.
-use Prim.Native.Nat.{ℕ, suc, ◌+◌, ◌-◌, ◌*◌, ◌≤◌, ◌<◌}
+use Prim.Native.Nat.{ℕ, ◌+◌, ◌-◌, ◌*◌, ◌≤◌, ◌<◌, suc}
 use mathlib.Core.Path.{◌≡◌, refl, sym, ap, ◌∙◌, subst}
 use mathlib.Core.Logic.{◌⊎◌, inl, inr}
 use mathlib.Core.Bool.{Bool}
@@ -8,25 +8,38 @@ use native.Mathlib.Omega.{arith}
 use native.Mathlib.Decide.{ℕ_discrete, dec_lt}
 use lib.ListN.{length, get_or, set}
 use lib.Seq.{get_or-set_same, get_or-set_other}
-use Rattle.bits.specs.Sum.{sum_over}
-use Rattle.bits.proofs.SumLaws.{sum_none}
 use Rattle.rules.specs.Size.{Size}
-use Rattle.table.specs.Value.{HalfOf}
 use Rattle.queue_state.specs.Layout.{length_place, per_line, live_place, support_place, slab_size}
 use Rattle.queue_state.specs.Slab.{cand, Sized, Grown}
-use Rattle.queue_state.proofs.StruckLaws.{grown_refl, grown_trans, set_cand, set_grown}
+use Rattle.queue_state.proofs.StruckLaws.{grown_trans, set_cand, set_grown, grown_refl}
 use Rattle.queue_state.proofs.ReadyLaws.{ready_grown, next_grown}
 use Rattle.queue_state.specs.Ready.{Ready, Next}
 use Rattle.lane.specs.declared.Lane.{Lane}
 use Rattle.words.specs.Word.{Known, word_of, part}
-use Rattle.words.proofs.PatternLaws.{part_other}
 use Rattle.arcs.specs.Arc.{lives, live, support, Tallied, Alive, DeadArrangement, Listed, Fewer, Older, Held, Holding}
-use Rattle.table.specs.Lines.{cell_at, black_at}
+use Rattle.table.specs.Lines.{cell_at, black_at, LineOf}
 use Rattle.arcs.proofs.LineLaws.{dead_kept, sum_each}
 use Rattle.arcs.proofs.AliveLaws.{cell_once, alive_kept, alive_next, tallied_same, within_refl, within_trans, holding_drop}
-use Rattle.arcs.specs.Sweep.{RemoveAsk, Removed, Outlives, untouched, Aging, AllAlive, SweepAsk, Sweeping, Swept, LineAsk, LineDone}
+use Rattle.arrangements.specs.declared.ArrangedLane.{ArrangedLane}
+use Rattle.arcs.specs.Sweep.{RemoveAsk, Removed, Outlives, Aging, AllAlive, SweepAsk, Sweeping, Swept, LineDone, untouched, LineAsk}
+use Rattle.bits.specs.Sum.{sum_over}
+use Rattle.bits.proofs.SumLaws.{sum_none}
+use Rattle.table.specs.Value.{HalfOf}
+use Rattle.words.proofs.PatternLaws.{part_other}
 
-module _ {p v : ℕ} {lane : Lane} {ws l₀ : List ℕ} (a : SweepAsk lane p v ws l₀) where
+-- its line is one of its size
+pub line_of : (a : ArrangedLane) → LineOf a.lane.len a.lane.number
+unfolding LineOf
+line_of a = go (dec_lt a.lane.number 9)
+  where
+    go : Dec (a.lane.number < 9) → (a.lane.number < a.lane.len) ⊎ ((9 ≤ a.lane.number) × (a.lane.number < 9 + a.lane.len))
+    go (yes h) = inl (omega (arith, a.among))
+    go (no h) = inr (omega arith, omega (arith, a.among, a.lane.within))
+
+module _ (arranged : ArrangedLane) {p v : ℕ} {l₀ : List ℕ} (a : SweepAsk arranged.lane p v l₀) where
+  abbrev lane : Lane
+  lane = arranged.lane
+
   abbrev n : ℕ
   n = lane.len
 
@@ -95,7 +108,6 @@ module _ {p v : ℕ} {lane : Lane} {ws l₀ : List ℕ} (a : SweepAsk lane p v w
           let q : len ≡ m + 1 = omega arith in
           record {
             ready = sweep_ready;
-            of = a.of;
             tallied = subst (λ k. Tallied n ℓ k l) q s.tallied;
             listed = omega arith;
             word = f;
@@ -201,7 +213,7 @@ module _ {p v : ℕ} {lane : Lane} {ws l₀ : List ℕ} (a : SweepAsk lane p v w
           sinks = λ y u b c. omega (arith, tally y u, s.within.sinks y u b c);
           struck = λ x u b c d.
               let w = s.within.struck x u b c (sym (same_cand x u) ∙ d) in
-              record { line = ℓ; of = a.of; at = w.at; within = w.within; there = w.there; half = w.half; none = tally (ℓ * 9 + w.at) u ∙ w.none };
+              record { line = ℓ; of = line_of arranged; at = w.at; within = w.within; there = w.there; half = w.half; none = tally (ℓ * 9 + w.at) u ∙ w.none };
           tallied = subst (λ k. Tallied n ℓ k l') (sym count)
               (tallied_same grown (λ j b. list j) (λ q u b c. tally (ℓ * 9 + q) u) a.ready.size s.tallied);
           fewer = λ j b. gone (s.fewer j b);
@@ -218,7 +230,7 @@ module _ {p v : ℕ} {lane : Lane} {ws l₀ : List ℕ} (a : SweepAsk lane p v w
 
 -- ---- with support the value is one of the line's half, and without it no live arrangement has it at the place
 
-module _ {p v : ℕ} {lane : Lane} {ws l₀ : List ℕ} (a : LineAsk lane p v ws l₀) where
+module _ {p v : ℕ} {lane : Lane} {l₀ : List ℕ} (a : LineAsk lane p v l₀) where
   -- the supports that the code reads
   line_bounds : (lane.number < 18) × (p < 9) × (length l₀ ≡ slab_size)
   line_bounds = (lane.within, omega (arith, a.place, a.ready.size.high), a.ready.sized.size)
@@ -227,13 +239,11 @@ module _ {p v : ℕ} {lane : Lane} {ws l₀ : List ℕ} (a : LineAsk lane p v ws
       sum_over 0 (lives l₀ lane.number) (λ j. part (black_at lane.number) (word_of lane.len (live l₀ lane.number j)) p v)
   supported = a.tallied.supports p v line_bounds.1 a.narrow
 
-  pub line_asked : (support l₀ (lane.number * 9 + p) v ≡ 0 → ⊥) → SweepAsk lane p v ws l₀
+  pub line_asked : (support l₀ (lane.number * 9 + p) v ≡ 0 → ⊥) → SweepAsk lane p v l₀
   unfolding HalfOf
   line_asked d =
       record {
         ready = a.ready;
-        words = a.words;
-        of = a.of;
         place = a.place;
         narrow = a.narrow;
         half = half (dec_lt v 8) (ℕ_discrete v (black_at lane.number)) (ℕ_discrete v (suc (black_at lane.number)));

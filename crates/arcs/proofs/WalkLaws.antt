@@ -18,6 +18,7 @@ use Rattle.words.proofs.StepLaws.{steps_none, steps_lt, steps_same, steps_after,
 use Rattle.arcs.specs.Arc.{support}
 use Rattle.arcs.specs.Sunk.{Sunk, masked, DigitsAsk}
 use Rattle.arcs.proofs.SunkLaws.{sunk_none, sunk_as, sunk_both}
+use Rattle.arrangements.specs.declared.Arrangement.{Arrangement}
 use Rattle.arcs.specs.Kill.{inners, InnerAsk}
 
 -- 1 where a is below b, else 0
@@ -50,7 +51,13 @@ pub record Walking (n line w : ℕ) (l₀ l : List ℕ) (p : ℕ) : Type 0 where
   pub upto : steps n (from_of w) p ≤ steps n (from_of w) (to_of w)
   pub sunk : Sunk (passed n line w p) l₀ l
 
-module _ {w : ℕ} {lane : Lane} {l₀ : List ℕ} (a : InnerAsk lane w l₀) where
+module _ (arrangement : Arrangement) {l₀ : List ℕ} (a : InnerAsk arrangement.lane arrangement.word l₀) where
+  abbrev lane : Lane
+  lane = arrangement.lane
+
+  abbrev w : ℕ
+  w = arrangement.word
+
   abbrev n : ℕ
   n = lane.len
 
@@ -60,19 +67,19 @@ module _ {w : ℕ} {lane : Lane} {l₀ : List ℕ} (a : InnerAsk lane w l₀) wh
   -- one step on is still on the way
   ahead : (p : ℕ) → p < n → steps n (from_of w) p < steps n (from_of w) (to_of w) → steps n (from_of w) (after n p) ≡ steps n (from_of w) p + 1
   ahead p h l =
-      steps_after n (from_of w) p a.shaped.from_in h (omega (arith, steps_lt n (from_of w) (to_of w) a.shaped.from_in a.shaped.to_in))
+      steps_after n (from_of w) p arrangement.shaped.from_in h (omega (arith, steps_lt n (from_of w) (to_of w) arrangement.shaped.from_in arrangement.shaped.to_in))
 
   pub walking_start : (f p : ℕ) → f ≡ from_of w → p ≡ after n f → Walking n line w l₀ l₀ p
   walking_start f p e q =
       let z = steps_none n (from_of w) in
-      let i = a.shaped.from_in in
-      let g = ahead (from_of w) i (omega (arith, a.shaped.apart)) in
+      let i = arrangement.shaped.from_in in
+      let g = ahead (from_of w) i (omega (arith, arrangement.shaped.apart)) in
       let d : p ≡ after n (from_of w) = q ∙ ap (after n) e in
       let st : steps n (from_of w) p ≡ 1 = ap (steps n (from_of w)) d ∙ g ∙ omega arith in
       record {
         within = rw d (after_in n (from_of w) i);
         begun = omega arith;
-        upto = omega (arith, a.shaped.apart);
+        upto = omega (arith, arrangement.shaped.apart);
         sunk = sunk_none l₀ (λ y v hy hv. none y v hy (dec_lt 0 (steps n (from_of w) (y % 9))) st);
       }
     where
@@ -81,22 +88,22 @@ module _ {w : ℕ} {lane : Lane} {l₀ : List ℕ} (a : InnerAsk lane w l₀) wh
       none y v hy (no l) e = out (dec_lt (y % 9) n)
         where
           out : Dec (y % 9 < n) → passed n line w p y v ≡ 0
-          out (yes i) = omega (arith, a.shaped.beyond (y % 9) i (inl (omega arith)))
-          out (no i) = omega (arith, a.shaped.past (y % 9) (omega arith) (omega arith))
+          out (yes i) = omega (arith, arrangement.shaped.beyond (y % 9) i (inl (omega arith)))
+          out (no i) = omega (arith, arrangement.shaped.past (y % 9) (omega arith) (omega arith))
 
   module _ {l : List ℕ} {p : ℕ} (c : Walking n line w l₀ l p) (t : ℕ) (e : t ≡ to_of w) (d : p ≡ t → ⊥) where
     before_end : steps n (from_of w) p < steps n (from_of w) (to_of w)
     before_end = go (ℕ_discrete (steps n (from_of w) p) (steps n (from_of w) (to_of w)))
       where
         go : Dec (steps n (from_of w) p ≡ steps n (from_of w) (to_of w)) → steps n (from_of w) p < steps n (from_of w) (to_of w)
-        go (yes q) = absurd (d (steps_same n (from_of w) p (to_of w) a.shaped.from_in c.within a.shaped.to_in q ∙ sym e))
+        go (yes q) = absurd (d (steps_same n (from_of w) p (to_of w) arrangement.shaped.from_in c.within arrangement.shaped.to_in q ∙ sym e))
         go (no q) = omega (arith, c.upto)
 
     inner : bit p (inner_of w) ≡ 1
-    inner = a.shaped.between p c.within c.begun before_end
+    inner = arrangement.shaped.between p c.within c.begun before_end
 
     narrow : p < 9
-    narrow = omega (arith, c.within, a.size.high)
+    narrow = omega (arith, c.within, arrangement.fits.high)
 
     slot_line : (line * 9 + p) / 9 ≡ line
     slot_line = omega (arith, narrow)
@@ -142,9 +149,9 @@ module _ {w : ℕ} {lane : Lane} {l₀ : List ℕ} (a : InnerAsk lane w l₀) wh
             go : Dec (y % 9 < n) → passed n line w p y v + masked (line * 9 + p) x y v ≡ passed n line w p' y v
             go (yes i) =
                 let z : below (steps n (from_of w) (y % 9)) (steps n (from_of w) p') ≡ below (steps n (from_of w) (y % 9)) (steps n (from_of w) p) =
-                rw k (below_next _ _ (λ o. q (omega (arith, steps_same n (from_of w) (y % 9) p a.shaped.from_in i c.within o)))) in
+                rw k (below_next _ _ (λ o. q (omega (arith, steps_same n (from_of w) (y % 9) p arrangement.shaped.from_in i c.within o)))) in
                 omega (arith, same_no y (line * 9 + p) q)
-            go (no i) = omega (arith, same_no y (line * 9 + p) q, a.shaped.past (y % 9) (omega arith) (omega arith))
+            go (no i) = omega (arith, same_no y (line * 9 + p) q, arrangement.shaped.past (y % 9) (omega arith) (omega arith))
 
   pub walking_end : {l : List ℕ} {p : ℕ} → Walking n line w l₀ l p → (t : ℕ) → t ≡ to_of w → p ≡ t → Sunk (inners line w) l₀ l
   walking_end {l} {p} c t e d = sunk_as c.sunk (λ y v hy hv. all y v (dec_lt (y % 9) n) (dec_lt (steps n (from_of w) (y % 9)) (steps n (from_of w) p)))
@@ -153,9 +160,9 @@ module _ {w : ℕ} {lane : Lane} {l₀ : List ℕ} (a : InnerAsk lane w l₀) wh
       at_end = ap (steps n (from_of w)) (d ∙ e)
 
       all : (y v : ℕ) → Dec (y % 9 < n) → Dec (steps n (from_of w) (y % 9) < steps n (from_of w) p) → passed n line w p y v ≡ inners line w y v
-      all y v (no i) _ = omega (arith, a.shaped.past (y % 9) (omega arith) (omega arith))
+      all y v (no i) _ = omega (arith, arrangement.shaped.past (y % 9) (omega arith) (omega arith))
       all y v (yes i) (yes l) = omega (arith, below_yes (steps n (from_of w) (y % 9)) (steps n (from_of w) p) l, bit_lt (y % 9) (inner_of w))
-      all y v (yes i) (no l) = omega (arith, a.shaped.beyond (y % 9) i (inr (omega (arith, at_end))))
+      all y v (yes i) (no l) = omega (arith, arrangement.shaped.beyond (y % 9) i (inr (omega (arith, at_end))))
 
   -- each step comes nearer
   pub walking_less : {l : List ℕ} {p : ℕ} → Walking n line w l₀ l p → (t : ℕ) → t ≡ to_of w → (p ≡ t → ⊥) → (p' : ℕ) → p' ≡ after n p →

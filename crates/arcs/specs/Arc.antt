@@ -8,7 +8,7 @@ use Rattle.queue_state.specs.Layout.{lengths_at, length_place, per_line, live_pl
 use Rattle.queue_state.specs.Slab.{cand, lag, table_in}
 use Rattle.queue_state.specs.Ready.{Ready, Next, Moved}
 use Rattle.table.specs.Value.{ValueOf, HalfOf}
-use Rattle.words.specs.Word.{Known, arrangement_of, word_of, part, Words}
+use Rattle.words.specs.Word.{Known, arrangement_of, word_of, part}
 use Rattle.table.specs.Lines.{line_at, cell_at, black_at, LineOf}
 
 -- ---- the counters
@@ -107,9 +107,8 @@ pub record Pruned (n : ℕ) (l l' : List ℕ) : Type 0 where
 -- ---- handling a strike
 
 -- What it needs: the strike of the candidate v of row r and column c was made.
-pub record ArcAsk (n : ℕ) (ws l : List ℕ) (r c v : ℕ) : Type 0 where
+pub record ArcAsk (n : ℕ) (l : List ℕ) (r c v : ℕ) : Type 0 where
   pub ready : Ready n l
-  pub words : Words n ws
   pub row : r < n
   pub column : c < n
   pub value : ValueOf n v

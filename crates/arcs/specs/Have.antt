@@ -1,16 +1,9 @@
 -- The tests of the sweep for a digit: which places of the line still have it, and whether an arrangement outlives the strike. Assumes nothing.
-use Rattle.std.specs.Prelude.{ℕ, ◌+◌, ◌*◌, ◌≤◌, ◌<◌, ◌^◌, ◌≡◌, ◌⊎◌, Bool, true, false, List, length, get_or}
+use Rattle.std.specs.Prelude.{ℕ, ◌+◌, ◌*◌, ◌≤◌, ◌<◌, ◌^◌, ◌≡◌, ◌⊎◌, Bool, true, false, List, get_or}
 use Rattle.std.specs.Int.Bits.{bit_and, bit_or}
 use Rattle.bits.specs.Bit.{bit}
 use Rattle.lane.specs.declared.Lane.{Lane}
 use Rattle.words.specs.Word.{set_of, covered_of}
-use Rattle.queue_state.specs.Layout.{slab_size}
-
--- The places of a line can be read.
-pub record HaveAsk (lane : Lane) (v : ℕ) (l : List ℕ) : Type 0 where
-  pub size : length l ≡ slab_size
-  pub high : lane.len ≤ 9
-  pub narrow : v < 16
 
 -- Every place before p that has the value v is in the mask have.
 unfoldable pub Have : Lane → ℕ → List ℕ → ℕ → ℕ → Type 0

@@ -2,10 +2,9 @@
 use Rattle.std.specs.Prelude.{ℕ, ◌+◌, ◌*◌, ◌/◌, ◌%◌, min, ◌≤◌, ◌<◌, List}
 use Rattle.bits.specs.Bit.{bit}
 use Rattle.bits.specs.Sum.{same}
-use Rattle.rules.specs.Size.{Size}
 use Rattle.queue_state.specs.Slab.{Sized}
 use Rattle.lane.specs.declared.Lane.{Lane}
-use Rattle.words.specs.Word.{set_of, inner_of, part, Shaped}
+use Rattle.words.specs.Word.{set_of, inner_of, part}
 use Rattle.arcs.specs.Arc.{support}
 use Rattle.table.specs.Lines.{black_at}
 
@@ -20,13 +19,9 @@ inners line w y v = min (same (y / 9) line) (min (bit (y % 9) (inner_of w)) (bit
 -- A word of the line whose supports at its inner places are there to fall.
 pub record InnerAsk (lane : Lane) (w : ℕ) (l : List ℕ) : Type 0 where
   pub sized : Sized l
-  pub size : Size lane.len
-  pub shaped : Shaped lane.len w
   pub enough : (q v : ℕ) → q < 9 → v < 16 → min (bit q (inner_of w)) (bit v (set_of w)) ≤ support l (lane.number * 9 + q) v
 
 -- A word of the line whose supports are all there to fall.
 pub record KillAsk (lane : Lane) (w : ℕ) (l : List ℕ) : Type 0 where
   pub sized : Sized l
-  pub size : Size lane.len
-  pub shaped : Shaped lane.len w
   pub enough : (q v : ℕ) → q < 9 → v < 16 → part (black_at lane.number) w q v ≤ support l (lane.number * 9 + q) v

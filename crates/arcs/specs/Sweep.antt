@@ -4,17 +4,16 @@ use Rattle.queue_state.specs.Layout.{counters_at, lengths_at, per_line, live_pla
 use Rattle.queue_state.specs.Slab.{cand, Grown}
 use Rattle.queue_state.specs.Ready.{Ready, Next}
 use Rattle.lane.specs.declared.Lane.{Lane}
-use Rattle.words.specs.Word.{word_of, part, Words}
+use Rattle.words.specs.Word.{word_of, part}
 use Rattle.arcs.specs.Arc.{lives, live, support, Tallied, Alive, Fewer, Older, Holding, Unsupported}
 use Rattle.table.specs.Value.{HalfOf}
-use Rattle.table.specs.Lines.{cell_at, black_at, LineOf}
+use Rattle.table.specs.Lines.{cell_at, black_at}
 
 -- ---- one arrangement leaves
 
 -- Arrangement i of the first len + 1 of a line's list is to leave, and w is its word.
 pub record RemoveAsk (lane : Lane) (i len w : ℕ) (l : List ℕ) : Type 0 where
   pub ready : Ready lane.len l
-  pub of : LineOf lane.len lane.number
   pub tallied : Tallied lane.len lane.number (len + 1) l
   pub listed : i ≤ len
   pub word : w ≡ word_of lane.len (live l lane.number i)
@@ -60,10 +59,8 @@ unfoldable pub AllAlive : ℕ → ℕ → List ℕ → ℕ → Type 0
 AllAlive n ℓ l h = (j : ℕ) → j < lives l ℓ → Alive n ℓ l h (live l ℓ j)
 
 -- What the sweep of a line for the strike of v at place p needs.
-pub record SweepAsk (lane : Lane) (p v : ℕ) (ws l : List ℕ) : Type 0 where
+pub record SweepAsk (lane : Lane) (p v : ℕ) (l : List ℕ) : Type 0 where
   pub ready : Ready lane.len l
-  pub words : Words lane.len ws
-  pub of : LineOf lane.len lane.number
   pub place : p < lane.len
   pub narrow : v < 16
   pub half : HalfOf (black_at lane.number) v
@@ -87,10 +84,8 @@ Swept n ℓ p v l₀ l len = Sweeping n ℓ p v l₀ l len len
 -- ---- a line is handled
 
 -- What handling the strike of v at place p of a line needs, where v may be a value of the other half.
-pub record LineAsk (lane : Lane) (p v : ℕ) (ws l : List ℕ) : Type 0 where
+pub record LineAsk (lane : Lane) (p v : ℕ) (l : List ℕ) : Type 0 where
   pub ready : Ready lane.len l
-  pub words : Words lane.len ws
-  pub of : LineOf lane.len lane.number
   pub place : p < lane.len
   pub narrow : v < 16
   pub gone : cand l (cell_at lane.number p) v ≡ 0

@@ -15,7 +15,6 @@ use Rattle.settled.proofs.SettledTable.{read_keeps, read_fits, settled_left}
 use Rattle.soundness.proofs.SameLaws.{same_left}
 use Rattle.queue_state.specs.Slab.{table_in}
 use Rattle.queue_state.specs.Ready.{Ready}
-use Rattle.words.specs.Word.{Words}
 use Rattle.invariants.specs.State.{Kept, Propagated}
 use Rattle.invariants.proofs.StateLaws.{within_sub}
 use Rattle.pick.specs.Choice.{row_choices, Branch}
@@ -68,11 +67,11 @@ module _ {n : ℕ} {l l' : List ℕ} (z : n ≤ 9) where
                 (record { grid = d; fit = (a.sound p q k).same (read_off p.size (table_in l')) d ∙ read_fits p (table_in l') small cl se });
           }
 
-    pub advance_branch : {ws : List ℕ} {x v : ℕ} → Words n ws → Branch n l' x v → Branching n ws l l' x v
-    advance_branch w br =
+    pub advance_branch : {x v : ℕ} → Branch n l' x v → Branching n l l' x v
+    advance_branch br =
         record {
           size = a.size;
-          propagable = record { words = w; lagging = a.lagging t };
+          lagging = a.lagging t;
           within = within_sub n l l' z a.sub;
           kept = a.kept t;
           same = a.sound;

@@ -18,7 +18,7 @@ use Rattle.soundness.specs.SameGrids.{Within}
 use Rattle.soundness.proofs.Measures.{open_le, total_le}
 use Rattle.queue_state.specs.Slab.{table_in, Struck, One}
 use Rattle.queue_state.specs.Ready.{Ready}
-use Rattle.invariants.specs.State.{Kept, PropagateAsk}
+use Rattle.invariants.specs.State.{Kept, Lagging}
 use Rattle.invariants.proofs.StateLaws.{within_sub, kept_struck, lagging_struck}
 use Rattle.set_cell.specs.Setting.{SetHit, SetAsk}
 use Rattle.backtrack.specs.Search.{FitGrid, NoneLeft, OneLeft, Branching, SettledAs, SearchAsk, Searched}
@@ -27,8 +27,8 @@ use Rattle.backtrack.proofs.BranchLaws.{branch_value, branch_open, branch_total,
 -- ---- the loop
 
 -- after some turns: found so far, and what is left to count
-pub record Turn (n : ℕ) (ws l₀ : List ℕ) (max : ℕ) (wanted : Bool) (cells₀ l : List ℕ) (found : ℕ) (cells : List ℕ) : Type 0 where
-  pub propagable : PropagateAsk n ws l
+pub record Turn (n : ℕ) (l₀ : List ℕ) (max : ℕ) (wanted : Bool) (cells₀ l : List ℕ) (found : ℕ) (cells : List ℕ) : Type 0 where
+  pub lagging : Lagging n l 0
   pub small : n ≤ 9
   pub size : length l ≡ length l₀
   pub room : length cells ≡ length cells₀
@@ -39,11 +39,11 @@ pub record Turn (n : ℕ) (ws l₀ : List ℕ) (max : ℕ) (wanted : Bool) (cell
   pub untouched : (found ≡ 0) ⊎ (wanted ≡ false) → cells ≡ cells₀
   pub written : wanted ≡ true → 0 < found → (p : Puzzle) → p.size ≡ n → Kept p l₀ → FitGrid p l₀ cells
 
-pub turn_start : {n : ℕ} {ws l : List ℕ} {wanted : Bool} {cells : List ℕ} (max : ℕ) → SearchAsk n ws l wanted (length cells) → Turn n ws l max wanted cells l 0 cells
-turn_start {n} {ws} {l} max s =
+pub turn_start : {n : ℕ} {l : List ℕ} {wanted : Bool} {cells : List ℕ} (max : ℕ) → SearchAsk n l wanted (length cells) → Turn n l max wanted cells l 0 cells
+turn_start {n} {l} max s =
     record {
-      propagable = s.propagable;
-      small = s.propagable.lagging.ready.size.high;
+      lagging = s.lagging;
+      small = s.lagging.ready.size.high;
       size = refl;
       room = refl;
       most = omega arith;
@@ -73,7 +73,7 @@ not_first true found e = inr (pos (ℕ_discrete found 0))
     pos (yes z) = absurd (true≢false (sym (eq-eqb found 0 z) ∙ e))
     pos (no z) = omega arith
 
-module _ {n : ℕ} {ws l₀ : List ℕ} {max : ℕ} {wanted : Bool} {cells₀ l : List ℕ} {found : ℕ} {cells : List ℕ} (t : Turn n ws l₀ max wanted cells₀ l found cells) where
+module _ {n : ℕ} {l₀ : List ℕ} {max : ℕ} {wanted : Bool} {cells₀ l : List ℕ} {found : ℕ} {cells : List ℕ} (t : Turn n l₀ max wanted cells₀ l found cells) where
   -- the cap is reached
   pub turn_capped : max ≤ found → Searched n l₀ max wanted found cells₀ cells
   turn_capped h =
@@ -127,16 +127,16 @@ shared max found k a c m e f =
 cap_left : (max found k : ℕ) → found < max → k ≤ max - found → found + k ≤ max
 cap_left max found k u h = omega arith
 
-module _ {n : ℕ} {ws l₀ : List ℕ} {max : ℕ} {wanted : Bool} {cells₀ l : List ℕ} {found : ℕ} {cells : List ℕ} (t : Turn n ws l₀ max wanted cells₀ l found cells)
-    (fits₀ : wanted ≡ true → length cells₀ ≡ n * n) (under : found < max) {l' : List ℕ} {i j v : ℕ} (cell : (i < n) × (j < n) × Branching n ws l l' (i * 9 + j) v) where
+module _ {n : ℕ} {l₀ : List ℕ} {max : ℕ} {wanted : Bool} {cells₀ l : List ℕ} {found : ℕ} {cells : List ℕ} (t : Turn n l₀ max wanted cells₀ l found cells)
+    (fits₀ : wanted ≡ true → length cells₀ ≡ n * n) (under : found < max) {l' : List ℕ} {i j v : ℕ} (cell : (i < n) × (j < n) × Branching n l l' (i * 9 + j) v) where
   abbrev x : ℕ
   x = i * 9 + j
 
-  a : Branching n ws l l' x v
+  a : Branching n l l' x v
   a = cell.2
 
   ready' : Ready n l'
-  ready' = a.propagable.lagging.ready
+  ready' = a.lagging.ready
 
   small : n ≤ 9
   small = t.small
@@ -160,10 +160,10 @@ module _ {n : ℕ} {ws l₀ : List ℕ} {max : ℕ} {wanted : Bool} {cells₀ l 
     s : Struck l' l₂ (SetHit (x / 9) (x % 9) v)
     s = rw (at_row, at_column) (subst (λ y. Struck y l₂ (SetHit i j v)) e s₁)
 
-    pub turn_searchable : {first : Bool} → first ≡ (wanted && eqb found 0) → SearchAsk n ws l₂ first (length cells)
+    pub turn_searchable : {first : Bool} → first ≡ (wanted && eqb found 0) → SearchAsk n l₂ first (length cells)
     turn_searchable f =
         record {
-          propagable = record { words = a.propagable.words; lagging = lagging_struck s a.propagable.lagging };
+          lagging = lagging_struck s a.lagging;
           fits = λ y. t.room ∙ fits₀ (wanted_first wanted found (sym f ∙ y)).0;
         }
 
@@ -178,10 +178,10 @@ module _ {n : ℕ} {ws l₀ : List ℕ} {max : ℕ} {wanted : Bool} {cells₀ l 
       in_l : Within n (table_in l₃) (table_in l)
       in_l = within_trans (within_sub n l' l₃ t.small d.grown.sub) a.within
 
-      pub turn_again : Turn n ws l₀ max wanted cells₀ l₃ (found + k) cells'
+      pub turn_again : Turn n l₀ max wanted cells₀ l₃ (found + k) cells'
       turn_again =
           record {
-            propagable = record { words = a.propagable.words; lagging = lagging_struck d a.propagable.lagging };
+            lagging = lagging_struck d a.lagging;
             small = t.small;
             size = d.grown.size ∙ a.size ∙ t.size;
             room = long ∙ t.room;

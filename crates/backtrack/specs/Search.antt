@@ -7,7 +7,7 @@ use Rattle.line_laws.specs.Grids.{GridOf}
 use Rattle.soundness.specs.SameGrids.{SameGrids, Within}
 use Rattle.queue_state.specs.Slab.{table_in}
 use Rattle.queue_state.specs.Ready.{Ready}
-use Rattle.invariants.specs.State.{Kept, PropagateAsk}
+use Rattle.invariants.specs.State.{Kept, Lagging}
 use Rattle.pick.specs.Choice.{Branch}
 use Rattle.backtrack.specs.declared.Next.{Next}
 use Rattle.backtrack.specs.declared.Next.TheVariants.{Contradicted, Settled}
@@ -26,9 +26,9 @@ pub record OneLeft (n : ℕ) (l l' : List ℕ) : Type 0 where
   pub read : (p : Puzzle) → p.size ≡ n → Kept p l → FitGrid p l (read_off n (table_in l'))
 
 -- A state with a choice: no grid is lost, and it may be branched on.
-pub record Branching (n : ℕ) (ws l l' : List ℕ) (x v : ℕ) : Type 0 where
+pub record Branching (n : ℕ) (l l' : List ℕ) (x v : ℕ) : Type 0 where
   pub size : length l' ≡ length l
-  pub propagable : PropagateAsk n ws l'
+  pub lagging : Lagging n l' 0
   pub within : Within n (table_in l') (table_in l)
   pub kept : (p : Puzzle) → p.size ≡ n → Kept p l → Kept p l'
   pub same : (p : Puzzle) → p.size ≡ n → Kept p l → SameGrids p (table_in l) (table_in l')
@@ -40,10 +40,10 @@ pub record NoneLeft (n : ℕ) (l l' : List ℕ) : Type 0 where
   pub none : (p : Puzzle) → p.size ≡ n → Kept p l → left p (table_in l) ≡ 0
 
 -- What a step forward leaves, by its answer.
-abbrev pub Advanced : ℕ → List ℕ → List ℕ → List ℕ → Next → Type 0
-Advanced n ws l l' Contradicted = NoneLeft n l l'
-Advanced n ws l l' Settled = OneLeft n l l'
-Advanced n ws l l' (next.Branch x) = (x.row < n) × (x.column < n) × Branching n ws l l' (x.row * 9 + x.column) x.value
+abbrev pub Advanced : ℕ → List ℕ → List ℕ → Next → Type 0
+Advanced n l l' Contradicted = NoneLeft n l l'
+Advanced n l l' Settled = OneLeft n l l'
+Advanced n l l' (next.Branch x) = (x.row < n) × (x.column < n) × Branching n l l' (x.row * 9 + x.column) x.value
 
 -- What the end of a branch asks.
 pub record SettleAsk (n : ℕ) (l : List ℕ) (wanted : Bool) (room : ℕ) : Type 0 where
@@ -56,8 +56,8 @@ pub record SettledAs (n : ℕ) (l : List ℕ) (wanted : Bool) (cells cells' : Li
   pub written : wanted ≡ true → cells' ≡ read_off n (table_in l)
 
 -- A state that may be searched, with room for the grid if it is wanted.
-pub record SearchAsk (n : ℕ) (ws l : List ℕ) (wanted : Bool) (room : ℕ) : Type 0 where
-  pub propagable : PropagateAsk n ws l
+pub record SearchAsk (n : ℕ) (l : List ℕ) (wanted : Bool) (room : ℕ) : Type 0 where
+  pub lagging : Lagging n l 0
   pub fits : wanted ≡ true → room ≡ n * n
 
 -- The count of the grids that fit, under a cap; the cells hold one of them if it was wanted and there is one, else they are as they were.

@@ -2,15 +2,17 @@
 // on the branch that rejects it: no range says how often, so the loop is a `while`.
 #![tactic(auto)]
 
-ghost use Rattle.std.specs.Prelude.{◌≡◌, ◌&&◌, ◌*◌, eqb, length};
-ghost use Rattle.invariants.specs.State.{PropagateAsk};
+ghost use Rattle.std.specs.Prelude.{◌≡◌, ◌&&◌, eqb, length};
+ghost use Rattle.invariants.specs.State.{Lagging};
 ghost use Rattle.backtrack.specs.Search.{Advanced, SearchAsk, Searched, SettleAsk, SettledAs};
 
+use arrangements::Arrangements;
 use copy::copy;
 use pick::pick_branch;
 use propagate::propagate;
 use queue_state::{Slab, clear_value};
 use set_cell::set_cell;
+use state_view::StateView;
 use value::Candidate;
 use written::write_grid;
 
@@ -23,14 +25,17 @@ pub enum Next {
 }
 
 // Propagates; then the candidate to branch on, if there is a choice.
-fn advance(st: &mut [u16], words: &[u32], n: usize) -> Next
-    requires { PropagateAsk n words.now st.old }
-    ensures { Advanced n words.now st.old st.new result }
+fn advance(st: &mut [u16], arrangements: Arrangements) -> Next
+    requires { Lagging arrangements.size.n st.old 0 }
+    ensures { Advanced arrangements.entry.size.n st.old st.new result }
 {
-    if propagate(st, words, n).is_err() {
+    if propagate(st, arrangements).is_err() {
         return Next::Contradicted;
     }
-    match pick_branch(st, n) {
+    match pick_branch(StateView {
+        st,
+        n: arrangements.size.n,
+    }) {
         Some(x) => Next::Branch(x),
         None => Next::Settled,
     }
@@ -43,13 +48,13 @@ fn is_first(wanted: bool, found: u64) -> bool
     wanted && found == 0
 }
 
-// The grid of a settled table is written if it is wanted.
+// The grid of a settled table is written if it is wanted. The view is made here: made in `search`, which calls itself, it costs up to half as much again (tried).
 fn settle(st: &[u16], n: usize, wanted: bool, cells: &mut [u8])
     requires { SettleAsk n st.now wanted (length cells.old) }
     ensures { SettledAs n st.now wanted cells.old cells.new }
 {
     if wanted {
-        write_grid(st, n, cells);
+        write_grid(StateView { st, n }, cells);
     }
 }
 
@@ -57,19 +62,19 @@ fn settle(st: &[u16], n: usize, wanted: bool, cells: &mut [u8])
 // contract, a sum over its variants (tried), and the flag says it in a word.
 pub fn search(
     st: &mut [u16],
-    words: &[u32],
-    n: usize,
+    arrangements: Arrangements,
     max: u64,
     wanted: bool,
     cells: &mut [u8],
 ) -> u64
-    requires { SearchAsk n words.now st.old wanted (length cells.old) }
-    ensures { Searched n st.old max wanted result cells.old cells.new }
+    requires { SearchAsk arrangements.size.n st.old wanted (length cells.old) }
+    ensures { Searched arrangements.entry.size.n st.old max wanted result cells.old cells.new }
 {
+    let n = arrangements.size.n;
     let mut found = 0u64;
     while found < max {
         let first = is_first(wanted, found);
-        match advance(st, words, n) {
+        match advance(st, arrangements) {
             Next::Contradicted => return found,
             Next::Settled => {
                 settle(st, n, first, cells);
@@ -79,7 +84,7 @@ pub fn search(
                 let mut other = [0u16; Slab::SIZE];
                 copy(st, &mut other);
                 set_cell(&mut other, n, x);
-                found += search(&mut other, words, n, max - found, first, cells);
+                found += search(&mut other, arrangements, max - found, first, cells);
                 clear_value(st, x.cell(), x.value);
             }
         }

@@ -125,7 +125,7 @@ module _ {p : Puzzle} {ms : List ℕ} {len : ℕ} (a : SolveAsk p ms len) where
   mark_in : (m : ℕ) → Memᴰ m ms → AcceptedMark p.size m
   mark_in = marks.accepted p.size ms a.count.marks
 
-  module _ {ws l : List ℕ} (m : Marked p ms ws l) where
+  module _ {l : List ℕ} (m : Marked p ms l) where
     -- the state's table is the whole one after the marks
     marked_same : SameGrids p (marked_all (table_in m.before) ms) (table_in l)
     marked_same =

@@ -8,11 +8,13 @@ ghost use Rattle.rules.specs.Grid.{puzzle};
 ghost use Rattle.puzzle.specs.Stands.{puzzle_of};
 ghost use Rattle.candidates.specs.Remaining.{TableGiven, Tabled};
 
+use arrangements::Arrangements;
 use engine::check_solve;
 use prepare::{Question, prepare};
 use propagate::{Contradicted, propagate};
 use queue_state::Slab;
 use refusal::Refusal;
+use state_view::StateView;
 use units::Unit;
 use words::ROOM;
 use written::write_candidates;
@@ -32,8 +34,16 @@ fn write_table(q: Question, table: &mut [u16]) -> Result<(), Contradicted>
     let mut st = [0u16; Slab::SIZE];
     let mut words = [0u32; ROOM];
     prepare(&mut st, &mut words, q)?;
-    propagate(&mut st, &words, q.puzzle.size.n)?;
-    write_candidates(&st, q.puzzle.size.n, table);
+    let arrangements = Arrangements {
+        size: q.puzzle.size,
+        words: &words,
+    };
+    propagate(&mut st, arrangements)?;
+    let view = StateView {
+        st: &st,
+        n: arrangements.size.n,
+    };
+    write_candidates(view, table);
     Ok(())
 }
 

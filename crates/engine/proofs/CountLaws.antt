@@ -75,11 +75,11 @@ module _ {p : Puzzle} {ms : List ℕ} (a : CountAsk p ms) where
   small : p.size ≤ 9
   small = a.puzzle.size.high
 
-  pub count_none : {ws l : List ℕ} {ok : Bool} (cap : ℕ) → Prepared p ms ws l ok → ok ≡ false → 0 ≡ capped cap p ms
+  pub count_none : {l : List ℕ} {ok : Bool} (cap : ℕ) → Prepared p ms l ok → ok ≡ false → 0 ≡ capped cap p ms
   unfolding capped
   count_none cap d e = let z = d.none e in omega arith
 
-  module _ {ws l : List ℕ} (m : Marked p ms ws l) where
+  module _ {l : List ℕ} (m : Marked p ms l) where
     -- what is left in the table is the number
     pub count_left : left p (table_in l) ≡ number p ms
     count_left =

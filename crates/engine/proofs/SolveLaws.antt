@@ -101,12 +101,12 @@ module _ {p : Puzzle} {ms : List ℕ} (a : CountAsk p ms) where
   found_small : p.size ≤ 9
   found_small = a.puzzle.size.high
 
-  pub found_none : {max : ℕ} {wanted : Bool} {ws l cells : List ℕ} {ok : Bool} → Prepared p ms ws l ok → ok ≡ false → Found p ms max wanted 0 cells cells
+  pub found_none : {max : ℕ} {wanted : Bool} {l cells : List ℕ} {ok : Bool} → Prepared p ms l ok → ok ≡ false → Found p ms max wanted 0 cells cells
   found_none {max} d e = record { count = count_none a max d e; untouched = λ _. refl; written = λ _ h. absurd (omega arith) }
 
-  module _ {ws l : List ℕ} (m : Marked p ms ws l) where
-    pub found_search : {wanted : Bool} {room : ℕ} → (wanted ≡ true → room ≡ p.size * p.size) → SearchAsk p.size ws l wanted room
-    found_search f = record { propagable = m.propagable; fits = f }
+  module _ {l : List ℕ} (m : Marked p ms l) where
+    pub found_search : {wanted : Bool} {room : ℕ} → (wanted ≡ true → room ≡ p.size * p.size) → SearchAsk p.size l wanted room
+    found_search f = record { lagging = m.lagging; fits = f }
 
     in_marks : Within p.size (table_in l) (marked_all (table_in m.before) ms)
     in_marks = record { kept = λ r c v hr hc k e. sym (m.table r c v (omega (arith, found_small)) (omega (arith, found_small)) (value_small p.size v found_small k)) ∙ e }

@@ -10,6 +10,7 @@ ghost use Rattle.puzzle.specs.Stands.{puzzle_of};
 ghost use Rattle.prepare.specs.Asked.{Asks};
 ghost use Rattle.engine.specs.Answer.{count_answer, verdict_on, solve_answer, Found, SolveWritten};
 
+use arrangements::Arrangements;
 use backtrack::search;
 use mark_list::check_list;
 use prepare::{Question, prepare};
@@ -54,7 +55,11 @@ fn find_grids(q: Question, max: u64, wanted: bool, cells: &mut [u8]) -> u64
     if prepare(&mut st, &mut words, q).is_err() {
         return 0;
     }
-    search(&mut st, &words, q.puzzle.size.n, max, wanted, cells)
+    let arrangements = Arrangements {
+        size: q.puzzle.size,
+        words: &words,
+    };
+    search(&mut st, arrangements, max, wanted, cells)
 }
 
 // The number of grids that keep the puzzle and the marks, at most the cap.

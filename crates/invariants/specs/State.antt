@@ -11,7 +11,7 @@ use Rattle.settled.specs.EmptyCell.{Empty}
 use Rattle.soundness.specs.SameGrids.{SameGrids}
 use Rattle.queue_state.specs.Slab.{cand, table_in, tail, lag}
 use Rattle.queue_state.specs.Ready.{Ready}
-use Rattle.words.specs.Word.{Words, arrangement_of}
+use Rattle.words.specs.Word.{arrangement_of}
 use Rattle.counters.specs.Counters.{Halves, LinePlaces, Blacks}
 use Rattle.arcs.specs.Arc.{lives, live, Arc, Holding}
 use Rattle.table.specs.Lines.{LineOf, line_number}
@@ -70,8 +70,3 @@ pub record Propagated (n : ℕ) (l l' : List ℕ) (rests : Bool) : Type 0 where
   pub kept : rests ≡ true → (p : Puzzle) → p.size ≡ n → Kept p l → Kept p l'
   pub closed : rests ≡ true → (p : Puzzle) → p.size ≡ n → Kept p l → Closed p (table_in l')
   pub filled : rests ≡ true → (r c : ℕ) → r < n → c < n → Empty n (table_in l') r c → ⊥
-
--- A state that may be propagated.
-pub record PropagateAsk (n : ℕ) (ws l : List ℕ) : Type 0 where
-  pub words : Words n ws
-  pub lagging : Lagging n l 0

@@ -8,7 +8,8 @@ ghost use Rattle.lane.specs.Lanes.{lane_black, lane_value};
 
 use value::Value;
 
-// Its number (row, or 9 + column), its first cell, the way from cell to cell, its first black (the second is the next value), and how many cells it has.
+// Its number (row, or 9 + column), its first cell, the way from cell to cell, its first black (the second is the next value), and how many cells it has: any
+// number, so that nobody is asked for a bound to have a lane.
 #[derive(Clone, Copy)]
 pub struct Lane {
     pub number: usize,

@@ -15,7 +15,8 @@ use Rattle.tally.specs.Tally as tally
 use Rattle.tally.proofs.TallyLaws.{sum_append, span_length}
 use Rattle.rules.proofs.StridedLaws.{map_next}
 use Rattle.lane.specs.declared.Lane.{Lane}
-use Rattle.words.specs.Word.{mask_in, size_in, from_sum, Known, word_of, part, on_side}
+use Rattle.rules.specs.Size.{Size}
+use Rattle.words.specs.Word.{mask_in, size_in, from_sum, Known, Shaped, word_of, part, on_side}
 use Rattle.words.proofs.WordFacts.{subset_fits, from_sum_most}
 use Rattle.words.proofs.FillLaws.{top_is}
 use Rattle.words.proofs.PatternLaws.{part_lt}
@@ -104,36 +105,32 @@ added_both {n} {ℓ} {a} {b} {c} {x} {y} r s =
     }
 
 -- where there is room for all, there is room for the first of them, and for the others after those
-pub addable_first : {lane : Lane} {ws l : List ℕ} (x y : List ℕ) → AddAsk lane ws l (x ++ y) → AddAsk lane ws l x
+pub addable_first : {lane : Lane} {l : List ℕ} (x y : List ℕ) → AddAsk lane l (x ++ y) → AddAsk lane l x
 addable_first x y a =
     record {
-      size = a.size;
-      words = a.words;
       long = a.long;
       room = omega (arith, a.room, length-append x y);
       low = a.low;
     }
 
-pub addable_after : {lane : Lane} {ws l l' : List ℕ} (x y : List ℕ) → AddAsk lane ws l (x ++ y) → Added lane.len lane.number l l' x → AddAsk lane ws l' y
+pub addable_after : {lane : Lane} {l l' : List ℕ} (x y : List ℕ) → AddAsk lane l (x ++ y) → Added lane.len lane.number l l' x → AddAsk lane l' y
 addable_after {lane} x y a d =
     record {
-      size = a.size;
-      words = a.words;
       long = d.size ∙ a.long;
       room = omega (arith, a.room, length-append x y, added_lives d);
       low = λ p v h k. omega (arith, a.low p v h k, d.supports p v h k, added_lives d, parts_le (black_at lane.number) lane.len p v x);
     }
 
 -- none yet; some more; all
-pub adding_start : {lane : Lane} {ws l whole : List ℕ} → AddAsk lane ws l whole → Adding lane ws l l whole whole
+pub adding_start : {lane : Lane} {l whole : List ℕ} → AddAsk lane l whole → Adding lane l l whole whole
 adding_start {lane} {l = l} a = record { done = []; added = added_none lane.len lane.number l; is = refl; ask = a }
 
-pub adding_next : {lane : Lane} {ws l₀ l l' whole : List ℕ} (x y : List ℕ) → Adding lane ws l₀ l (x ++ y) whole → Added lane.len lane.number l l' x →
-    Adding lane ws l₀ l' y whole
+pub adding_next : {lane : Lane} {l₀ l l' whole : List ℕ} (x y : List ℕ) → Adding lane l₀ l (x ++ y) whole → Added lane.len lane.number l l' x →
+    Adding lane l₀ l' y whole
 adding_next x y a d =
     record { done = a.done ++ x; added = added_both a.added d; is = append_assoc a.done x y ∙ a.is; ask = addable_after x y a.ask d }
 
-pub adding_end : {lane : Lane} {ws l₀ l whole : List ℕ} → Adding lane ws l₀ l [] whole → Added lane.len lane.number l₀ l whole
+pub adding_end : {lane : Lane} {l₀ l whole : List ℕ} → Adding lane l₀ l [] whole → Added lane.len lane.number l₀ l whole
 adding_end {lane} {l₀ = l₀} {l = l} a = rw (sym (append-nil a.done) ∙ a.is) at a.added
 
 -- ---- one arrangement, as the code adds it
@@ -145,7 +142,7 @@ appended ℓ l len id = set (set l (live_place ℓ len) id) (length_place ℓ) (
 pub joined_length : (ℓ : ℕ) (l : List ℕ) (len id : ℕ) → length (appended ℓ l len id) ≡ length l
 joined_length ℓ l len id = simp length-set
 
-module _ {lane : Lane} {ws l : List ℕ} (id : ℕ) (a : AddAsk lane ws l (id ∷ [])) (y : Known lane.len id) (len : ℕ) (e : len ≡ lives l lane.number) where
+module _ {lane : Lane} (z : Size lane.len) {l : List ℕ} (id : ℕ) (a : AddAsk lane l (id ∷ [])) (y : Known lane.len id) (len : ℕ) (e : len ≡ lives l lane.number) where
   abbrev n : ℕ
   n = lane.len
 
@@ -158,23 +155,21 @@ module _ {lane : Lane} {ws l : List ℕ} (id : ℕ) (a : AddAsk lane ws l (id �
   room : len < per_line
   room = omega (arith, a.room)
 
-  word : get_or ws id 0 ≡ word_of n id
-  word = a.words.each id y
-
   support_still : (p v : ℕ) → p < 9 → v < 16 → support (appended ℓ l len id) (ℓ * 9 + p) v ≡ support l (ℓ * 9 + p) v
   support_still p v h i = other (support_place (ℓ * 9 + p) v) (λ x. omega (arith, room, lane.within)) (λ x. omega (arith, lane.within))
 
+  pub add_shaped : Shaped n (word_of n id)
+  add_shaped = known_shaped n id z y
+
   -- its pattern can be added to the supports
-  pub add_ask : WordAsk lane (get_or ws id 0) (appended ℓ l len id)
+  pub add_ask : WordAsk lane (word_of n id) (appended ℓ l len id)
   add_ask =
       record {
-        size = a.size;
-        shaped = rw word (known_shaped n id a.size y);
         long = joined_length ℓ l len id ∙ a.long;
         low = λ p v h i. omega (arith, support_still p v h i, a.low p v h i, a.room);
       }
 
-  module _ {l₃ : List ℕ} (r : Raised ℓ (appended ℓ l len id) l₃ (part lane.first (get_or ws id 0))) where
+  module _ {l₃ : List ℕ} (r : Raised ℓ (appended ℓ l len id) l₃ (part lane.first (word_of n id))) where
     lives_now : lives l₃ ℓ ≡ len + 1
     lives_now =
         r.rest (length_place ℓ) (λ p v b c x. omega (arith, lane.within))
@@ -204,21 +199,21 @@ module _ {lane : Lane} {ws l : List ℕ} (id : ℕ) (a : AddAsk lane ws l (id �
               ∙ map_next (λ j. live l₃ ℓ j) len
               ∙ ap₂ (λ x z. x ++ z ∷ []) old_list last_now;
           supports = λ p v h i.
-              let x : part lane.first (get_or ws id 0) p v ≡ part (black_at ℓ) (word_of n id) p v = ap₂ (λ b w. part b w p v) lane.black word in
+              let x : part lane.first (word_of n id) p v ≡ part (black_at ℓ) (word_of n id) p v = ap (λ b. part b (word_of n id) p v) lane.black in
               omega (arith, r.supports p v h i, support_still p v h i);
           rest = λ q h. r.rest q h.supports ∙ other q (h.list len room) h.count;
         }
 
 -- ---- what a scan lists, one after the other
 
-module _ (f : ℕ → List ℕ) (ok : ℕ → Bool) (a m : ℕ) {lane : Lane} {ws l₀ l whole : List ℕ} (d : Adding lane ws l₀ l (scan f ok a m) whole) where
-  pub scan_ask : a < m → ok a ≡ true → AddAsk lane ws l (f a)
+module _ (f : ℕ → List ℕ) (ok : ℕ → Bool) (a m : ℕ) {lane : Lane} {l₀ l whole : List ℕ} (d : Adding lane l₀ l (scan f ok a m) whole) where
+  pub scan_ask : a < m → ok a ≡ true → AddAsk lane l (f a)
   scan_ask h e = addable_first (f a) (scan f ok (a + 1) m) (rw (scan_yes f ok m a h e) at d.ask)
 
-  pub scan_next : a < m → ok a ≡ true → {l' : List ℕ} → Added lane.len lane.number l l' (f a) → Adding lane ws l₀ l' (scan f ok (a + 1) m) whole
+  pub scan_next : a < m → ok a ≡ true → {l' : List ℕ} → Added lane.len lane.number l l' (f a) → Adding lane l₀ l' (scan f ok (a + 1) m) whole
   scan_next h e r = adding_next (f a) (scan f ok (a + 1) m) (rw (scan_yes f ok m a h e) at d) r
 
-  pub scan_skip : a < m → ok a ≡ false → Adding lane ws l₀ l (scan f ok (a + 1) m) whole
+  pub scan_skip : a < m → ok a ≡ false → Adding lane l₀ l (scan f ok (a + 1) m) whole
   scan_skip h e = rw (scan_no f ok m a h e) at d
 
   pub scan_done : m ≤ a → Added lane.len lane.number l₀ l whole
@@ -236,24 +231,23 @@ module _ (lane : Lane) {outside : Bool} {len : ℕ} {starts : Range ℕ} (s : �
       go true e = absurd (d (e refl))
       go false e = refl
 
-  module _ {ws l₀ : List ℕ} where
-    pub starts_start : AddAsk lane ws l₀ (starts_from lane.len outside s (size_in s) 0) →
-        Adding lane ws l₀ l₀ (starts_from lane.len outside s (size_in s) starts.start) (starts_from lane.len outside s (size_in s) 0)
+  module _ {l₀ : List ℕ} where
+    pub starts_start : AddAsk lane l₀ (starts_from lane.len outside s (size_in s) 0) →
+        Adding lane l₀ l₀ (starts_from lane.len outside s (size_in s) starts.start) (starts_from lane.len outside s (size_in s) 0)
     unfolding starts_from
     starts_start a = rw (← scan_after _ _ lane.len starts.start (λ i h j. off i j (λ q. omega (arith, q.0)))) (adding_start a)
 
-    module _ {l whole : List ℕ} {a : ℕ} (d : Adding lane ws l₀ l (starts_from lane.len outside s (size_in s) a) whole) where
-      pub starts_ask : starts.start ≤ a → a < starts.end → StartsAsk lane.len s (size_in s) → AddAsk lane ws l ((s * 9 + a) ∷ []) × Known lane.len (s * 9 + a)
+    module _ {l whole : List ℕ} {a : ℕ} (d : Adding lane l₀ l (starts_from lane.len outside s (size_in s) a) whole) where
+      pub starts_ask : Size lane.len → starts.start ≤ a → a < starts.end → StartsAsk lane.len s (size_in s) → AddAsk lane l ((s * 9 + a) ∷ []) × Known lane.len (s * 9 + a)
       unfolding starts_from
-      starts_ask g h q =
-          let z = d.ask.size in
+      starts_ask z g h q =
           let i : a < lane.len = omega (arith, r.within) in
           let u : (s * 9 + a) / 9 ≡ s = omega (arith, z.high) in
           let v : (s * 9 + a) % 9 ≡ a = omega (arith, z.high) in
           (scan_ask _ _ a lane.len d i (on a g h), record { within = omega (arith, q.among, z.high); starts = rw v i; digits = rw u q.digits })
 
       pub starts_next : starts.start ≤ a → a < starts.end → {l' : List ℕ} → Added lane.len lane.number l l' ((s * 9 + a) ∷ []) →
-          Adding lane ws l₀ l' (starts_from lane.len outside s (size_in s) (a + 1)) whole
+          Adding lane l₀ l' (starts_from lane.len outside s (size_in s) (a + 1)) whole
       unfolding starts_from
       starts_next g h t = scan_next _ _ a lane.len d (omega (arith, r.within)) (on a g h) t
 
@@ -265,15 +259,15 @@ module _ (lane : Lane) {outside : Bool} {len : ℕ} {starts : Range ℕ} (s : �
           adding_end (rw e at d)
 
 -- those of one sum: the subsets from .. to
-pub sum_start : {lane : Lane} {ws l : List ℕ} (outside : Bool) (want from : ℕ) → from ≡ from_sum want → AddAsk lane ws l (side_of lane.len outside want) →
-    Adding lane ws l l (side_from lane.len outside from (from_sum (want + 1))) (side_of lane.len outside want)
+pub sum_start : {lane : Lane} {l : List ℕ} (outside : Bool) (want from : ℕ) → from ≡ from_sum want → AddAsk lane l (side_of lane.len outside want) →
+    Adding lane l l (side_from lane.len outside from (from_sum (want + 1))) (side_of lane.len outside want)
 unfolding side_of
 sum_start outside want from e a = rw e (adding_start a)
 
-module _ {lane : Lane} {ws l₀ l whole : List ℕ} (outside : Bool) (want s to : ℕ)
-    (d : Adding lane ws l₀ l (side_from lane.len outside s (from_sum (want + 1))) whole) (e : to ≡ from_sum (want + 1)) where
+module _ {lane : Lane} (z : Size lane.len) {l₀ l whole : List ℕ} (outside : Bool) (want s to : ℕ)
+    (d : Adding lane l₀ l (side_from lane.len outside s (from_sum (want + 1))) whole) (e : to ≡ from_sum (want + 1)) where
   top : 1 * 2 ^ (lane.len - 1) % 65536 ≡ 2 ^ (lane.len - 1)
-  top = top_is lane.len d.ask.size
+  top = top_is lane.len z
 
   fits : mask_in s < 1 * 2 ^ (lane.len - 1) % 65536 → of_size lane.len s ≡ true
   unfolding of_size
@@ -283,20 +277,20 @@ module _ {lane : Lane} {ws l₀ l whole : List ℕ} (outside : Bool) (want s to 
   sum_low h b = omega (arith, from_sum_most (want + 1) (omega arith))
 
   pub sum_ask : s < to → want < 29 → mask_in s < 1 * 2 ^ (lane.len - 1) % 65536 →
-      AddAsk lane ws l (starts_from lane.len outside s (size_in s) 0) × StartsAsk lane.len s (size_in s)
+      AddAsk lane l (starts_from lane.len outside s (size_in s) 0) × StartsAsk lane.len s (size_in s)
   unfolding side_from
   sum_ask h b t =
       let i = sum_low h b in
       let q : mask_in s < 2 ^ (lane.len - 1) = rw top at t in
-      (scan_ask _ _ s _ d (omega arith) (fits t), record { among = i; digits = q; few = subset_fits s i lane.len d.ask.size q })
+      (scan_ask _ _ s _ d (omega arith) (fits t), record { among = i; digits = q; few = subset_fits s i lane.len z q })
 
   pub sum_next : s < to → mask_in s < 1 * 2 ^ (lane.len - 1) % 65536 → {l' : List ℕ} →
       Added lane.len lane.number l l' (starts_from lane.len outside s (size_in s) 0) →
-      Adding lane ws l₀ l' (side_from lane.len outside (s + 1) (from_sum (want + 1))) whole
+      Adding lane l₀ l' (side_from lane.len outside (s + 1) (from_sum (want + 1))) whole
   unfolding side_from
   sum_next h t r = scan_next _ _ s _ d (omega arith) (fits t) r
 
-  pub sum_skip : s < to → 1 * 2 ^ (lane.len - 1) % 65536 ≤ mask_in s → Adding lane ws l₀ l (side_from lane.len outside (s + 1) (from_sum (want + 1))) whole
+  pub sum_skip : s < to → 1 * 2 ^ (lane.len - 1) % 65536 ≤ mask_in s → Adding lane l₀ l (side_from lane.len outside (s + 1) (from_sum (want + 1))) whole
   unfolding side_from of_size
   sum_skip h t = scan_skip _ _ s _ d (omega arith) (le-ltb (mask_in s) (2 ^ (lane.len - 1)) (rw top at t))
 

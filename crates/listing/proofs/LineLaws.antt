@@ -20,14 +20,14 @@ use Rattle.rules.proofs.SizeLaws.{target_most}
 use Rattle.lane.specs.declared.Lane.{Lane}
 use Rattle.lane.specs.Rows.{RowLane, ColumnLane}
 use Rattle.puzzle.specs.declared.Puzzle.{Puzzle}
-use Rattle.words.specs.Word.{arrangement_of, word_of, part, Words}
+use Rattle.words.specs.Word.{arrangement_of, word_of, part}
 use Rattle.fresh.specs.Fresh.{Fresh}
 use Rattle.arcs.specs.Arc.{lives, live, support}
 use Rattle.table.specs.Lines.{black_at, LineOf}
 use Rattle.queue_state.specs.Layout.{lengths_at, length_place, per_line, live_place, support_place}
 use Rattle.listing.specs.Numbers.{side_of, numbers_for}
 use Rattle.listing.proofs.NumberFacts.{numbers_few, numbers_are, numbers_known}
-use Rattle.listing.specs.Listing.{list_of, Elsewhere, Added, AddAsk, Unlisted, Lists, target_at, OpenAsk, LinesListed}
+use Rattle.listing.specs.Listing.{list_of, Elsewhere, Added, AddAsk, Unlisted, Lists, target_at, LinesListed}
 use Rattle.listing.proofs.AddLaws.{map_same, added_lives, added_both, addable_first, addable_after}
 
 -- each target is in range
@@ -37,24 +37,22 @@ within m [] e i h = absurd (omega arith)
 within m (t ∷ ts) e zero h = leb-true t m (and_left (leb t m) _ e)
 within m (t ∷ ts) e (suc i) h = within m ts (and_right (leb t m) _ e) i (omega arith)
 
--- What opening goes by: the fresh state, the words of the size, and a target in range for each row and each column.
-pub record Listable (n : ℕ) (ws rows columns l : List ℕ) : Type 0 where
+-- What opening goes by: the fresh state, and a target in range for each row and each column.
+pub record Listable (n : ℕ) (rows columns l : List ℕ) : Type 0 where
   pub size : Size n
   pub fresh : Fresh n l
-  pub words : Words n ws
   pub rows_long : length rows ≡ n
   pub columns_long : length columns ≡ n
   pub rows_within : (i : ℕ) → i < n → get_or rows i 0 ≤ max_target n
   pub columns_within : (i : ℕ) → i < n → get_or columns i 0 ≤ max_target n
 
 -- A puzzle that passed the checks has it.
-pub listable : (p : Puzzle) {ws l : List ℕ} → OpenAsk p.size.n ws l → Listable p.size.n ws p.rows.now p.columns.now l
-listable p a =
+pub listable : (p : Puzzle) {l : List ℕ} → Fresh p.size.n l → Listable p.size.n p.rows.now p.columns.now l
+listable p f =
     let g = p.accepted in
     record {
       size = g.size;
-      fresh = a.fresh;
-      words = a.words;
+      fresh = f;
       rows_long = g.rows_long;
       columns_long = g.columns_long;
       rows_within = λ i h. within (max_target p.size.n) p.rows.now g.rows_within i (subst (λ k. i < k) (sym g.rows_long) h);
@@ -63,19 +61,19 @@ listable p a =
 
 -- ---- one line: the inside ones, then the outside ones
 
-module _ {lane : Lane} {ws l : List ℕ} (t m : ℕ) (e : m ≡ max_target lane.len) (a : AddAsk lane ws l (numbers_for lane.len t)) where
+module _ {lane : Lane} (z : Size lane.len) {l : List ℕ} (t m : ℕ) (e : m ≡ max_target lane.len) (a : AddAsk lane l (numbers_for lane.len t)) where
   most : m ≤ 28
-  most = omega (arith, e, target_most lane.len a.size)
+  most = omega (arith, e, target_most lane.len z)
 
   parts : numbers_for lane.len t ≡ side_of lane.len false t ++ side_of lane.len true (m - t)
   unfolding numbers_for
   parts = rw e
 
-  pub inside_ask : t ≤ max_target lane.len → AddAsk lane ws l (side_of lane.len false t) × (t < 29)
+  pub inside_ask : t ≤ max_target lane.len → AddAsk lane l (side_of lane.len false t) × (t < 29)
   inside_ask h = (addable_first _ (side_of lane.len true (m - t)) (rw parts at a), omega (arith, most, e))
 
   pub outside_ask : {l₁ : List ℕ} → Added lane.len lane.number l l₁ (side_of lane.len false t) →
-      AddAsk lane ws l₁ (side_of lane.len true (m - t)) × (m - t < 29)
+      AddAsk lane l₁ (side_of lane.len true (m - t)) × (m - t < 29)
   outside_ask r = (addable_after (side_of lane.len false t) _ (rw parts at a) r, omega (arith, most))
 
   pub line_added : {l₁ l₂ : List ℕ} → Added lane.len lane.number l l₁ (side_of lane.len false t) →
@@ -159,14 +157,12 @@ pub record ListedTo (n k : ℕ) (rows columns l l' : List ℕ) : Type 0 where
   pub column : (i : ℕ) → i < k → Lists n (9 + i) (get_or columns i 0) l'
   pub rest : (q : ℕ) → ((i : ℕ) → i < k → Elsewhere i q × Elsewhere (9 + i) q) → get_or l' q 0 ≡ get_or l q 0
 
-module _ {n : ℕ} {ws rows columns l : List ℕ} (a : Listable n ws rows columns l) where
+module _ {n : ℕ} {rows columns l : List ℕ} (a : Listable n rows columns l) where
   -- a line that lists nothing can list the arrangements of its target
   addable : {l' : List ℕ} (lane : Lane) (t : ℕ) → lane.len ≡ n → length l' ≡ length l → t ≤ max_target n → Unlisted lane.number l' →
-      AddAsk lane ws l' (numbers_for lane.len t)
+      AddAsk lane l' (numbers_for lane.len t)
   addable lane t e long m u =
       record {
-        size = rw e a.size;
-        words = rw e a.words;
         long = long ∙ a.fresh.size;
         room = rw e (omega (arith, u.none, numbers_few n t a.size m));
         low = λ p v x y. omega (arith, u.supports p v x y);
@@ -188,7 +184,7 @@ module _ {n : ℕ} {ws rows columns l : List ℕ} (a : Listable n ws rows column
         (λ q _ f. d.rest q (λ j x. (f j (omega (arith, low)) (λ y. omega arith), f (9 + j) (omega (arith, low)) (λ y. omega (arith, low)))))
         (fresh_unlisted n i l a.fresh)
 
-    pub row_ask : {lane : Lane} (t : ℕ) → RowLane n i lane → t ≡ r → AddAsk lane ws l₁ (numbers_for lane.len t) × (t ≤ max_target lane.len)
+    pub row_ask : {lane : Lane} (t : ℕ) → RowLane n i lane → t ≡ r → AddAsk lane l₁ (numbers_for lane.len t) × (t ≤ max_target lane.len)
     row_ask {lane} t e f =
         let m : t ≤ max_target n = omega (arith, a.rows_within i h) in
         (addable lane t e.4 d.size m (rw e.0 row_unlisted), rw e.4 m)
@@ -206,7 +202,7 @@ module _ {n : ℕ} {ws rows columns l : List ℕ} (a : Listable n ws rows column
           ∙ d.rest q (λ j x. (f j (omega (arith, low)) (λ y. omega (arith, low)), f (9 + j) (omega (arith, low)) (λ y. omega arith))))
           (fresh_unlisted n (9 + i) l a.fresh)
 
-      pub column_ask : {lane : Lane} (u : ℕ) → ColumnLane n i lane → u ≡ c → AddAsk lane ws l₂ (numbers_for lane.len u) × (u ≤ max_target lane.len)
+      pub column_ask : {lane : Lane} (u : ℕ) → ColumnLane n i lane → u ≡ c → AddAsk lane l₂ (numbers_for lane.len u) × (u ≤ max_target lane.len)
       column_ask {lane} u g k =
           let m : u ≤ max_target n = omega (arith, a.columns_within i h) in
           (addable lane u g.4 (row_added.size ∙ d.size) m (rw g.0 column_unlisted), rw g.4 m)

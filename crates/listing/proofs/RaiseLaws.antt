@@ -20,6 +20,7 @@ use Rattle.words.specs.Word.{set_of, inner_of, first_of, second_of, part}
 use Rattle.words.proofs.PatternLaws.{part_digit, part_first, part_second, part_other, first_in, second_in}
 use Rattle.arcs.specs.Arc.{support}
 use Rattle.queue_state.specs.Layout.{support_place}
+use Rattle.arrangements.specs.declared.Arrangement.{Arrangement}
 use Rattle.listing.specs.Listing.{Raised, one_at, digits_at, inner_at, RaiseAsk, WordAsk}
 
 same_lt : (a b : ℕ) → same a b < 2
@@ -48,9 +49,9 @@ raised_both d r s e =
     }
 
 -- one support, as the code raises it
-pub raise_done : (l : List ℕ) (ℓ p v : ℕ) → RaiseAsk ℓ p v l → Raised ℓ l (set l (support_place (ℓ * 9 + p) v) (support l (ℓ * 9 + p) v + 1)) (one_at p v)
+pub raise_done : (l : List ℕ) (ℓ p v : ℕ) → ℓ < 18 → RaiseAsk ℓ p v l → Raised ℓ l (set l (support_place (ℓ * 9 + p) v) (support l (ℓ * 9 + p) v + 1)) (one_at p v)
 unfolding one_at
-raise_done l ℓ p v a =
+raise_done l ℓ p v line a =
     record {
       size = length-set l _ _;
       supports = λ q w h k. at q w h k (ℕ_discrete (q * 16 + w) (p * 16 + v));
@@ -62,7 +63,7 @@ raise_done l ℓ p v a =
     at q w h k (yes e) =
         let eq : q ≡ p = omega (arith, a.value) in
         let ew : w ≡ v = omega (arith, a.value) in
-        rw (eq, ew) (get_or-set_same l _ _ 0 (omega (arith, a.long, a.line, a.place, a.value)) ∙ omega (arith, same_yes (p * 16 + v) (p * 16 + v) refl))
+        rw (eq, ew) (get_or-set_same l _ _ 0 (omega (arith, a.long, line, a.place, a.value)) ∙ omega (arith, same_yes (p * 16 + v) (p * 16 + v) refl))
     at q w h k (no e) =
         get_or-set_other l _ (support_place (ℓ * 9 + q) w) _ 0 (λ d. e (omega arith)) ∙ omega (arith, same_no (q * 16 + w) (p * 16 + v) e)
 
@@ -80,7 +81,6 @@ module _ {ℓ p set rest digit rest' : ℕ} {l₀ l : List ℕ} (d : Digits ℓ 
       let r = d.raised.supports p digit a.place b.value in
       record {
         long = d.raised.size ∙ a.long;
-        line = a.line;
         place = a.place;
         value = a.value;
         low = omega (arith, a.low, b.here, bit_lt digit set);
@@ -144,7 +144,6 @@ module _ {ℓ w rest p rest' : ℕ} {l₀ l : List ℕ} (d : Inner ℓ w rest l�
       let a = d.can p v among h in
       record {
         long = d.raised.size ∙ a.long;
-        line = a.line;
         place = a.place;
         value = a.value;
         low = omega (arith, a.low, d.raised.supports p v among h, b.here, bit_lt p (inner_of w));
@@ -182,7 +181,14 @@ inner_end {w = w} {rest = rest} d e =
 -- ---- the pattern of a word
 
 -- x and y are the places of its blacks
-module _ {lane : Lane} {w : ℕ} {l : List ℕ} (a : WordAsk lane w l) (x y : ℕ) (ex : x ≡ first_of w) (ey : y ≡ second_of w) where
+module _ (arrangement : Arrangement) {l : List ℕ} (a : WordAsk arrangement.lane arrangement.word l)
+    (x y : ℕ) (ex : x ≡ first_of arrangement.word) (ey : y ≡ second_of arrangement.word) where
+  abbrev lane : Lane
+  lane = arrangement.lane
+
+  abbrev w : ℕ
+  w = arrangement.word
+
   abbrev n : ℕ
   n = lane.len
 
@@ -199,16 +205,15 @@ module _ {lane : Lane} {w : ℕ} {l : List ℕ} (a : WordAsk lane w l) (x y : �
   black_to = omega (arith, lane.black, black_high ℓ)
 
   first_fits : x < 9
-  first_fits = omega (arith, first_in n k w a.shaped black_from, a.size.high)
+  first_fits = omega (arith, first_in n k w arrangement.shaped black_from, arrangement.fits.high)
 
   second_fits : y < 9
-  second_fits = omega (arith, second_in n k w a.shaped black_from, a.size.high)
+  second_fits = omega (arith, second_in n k w arrangement.shaped black_from, arrangement.fits.high)
 
   pub word_first : RaiseAsk ℓ x k l
   word_first =
       record {
         long = a.long;
-        line = lane.within;
         place = first_fits;
         value = omega (arith, black_to);
         low = omega (arith, a.low x k first_fits (omega (arith, black_to)));
@@ -219,7 +224,6 @@ module _ {lane : Lane} {w : ℕ} {l : List ℕ} (a : WordAsk lane w l) (x y : �
   word_second r =
       record {
         long = r.size ∙ a.long;
-        line = lane.within;
         place = second_fits;
         value = omega (arith, black_to);
         low =
@@ -236,7 +240,6 @@ module _ {lane : Lane} {w : ℕ} {l : List ℕ} (a : WordAsk lane w l) (x y : �
   word_inner r s p v g b =
       record {
         long = s.size ∙ r.size ∙ a.long;
-        line = lane.within;
         place = g;
         value = b;
         low =

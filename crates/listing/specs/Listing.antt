@@ -4,13 +4,11 @@ use Rattle.tally.specs.Tally.{span}
 use Rattle.tally.specs.Tally as tally
 use Rattle.bits.specs.Bit.{bit}
 use Rattle.bits.specs.Sum.{sum_over, same}
-use Rattle.rules.specs.Size.{Size}
 use Rattle.table.specs.Closed.{arrangements}
 use Rattle.lane.specs.declared.Lane.{Lane}
-use Rattle.words.specs.Word.{Known, arrangement_of, word_of, mask_in, set_of, inner_of, part, Shaped, Words}
+use Rattle.words.specs.Word.{Known, arrangement_of, word_of, mask_in, set_of, inner_of, part}
 use Rattle.arcs.specs.Arc.{lives, live, support}
 use Rattle.table.specs.Lines.{black_at, LineOf}
-use Rattle.fresh.specs.Fresh.{Fresh}
 use Rattle.queue_state.specs.Layout.{lengths_at, length_place, per_line, live_place, support_place, slab_size}
 
 -- The numbers of the arrangements that line ℓ lists.
@@ -46,15 +44,12 @@ inner_at w q v = min (bit v (set_of w)) (bit q (inner_of w))
 -- The support of the value v at place p of line ℓ can rise.
 pub record RaiseAsk (ℓ p v : ℕ) (l : List ℕ) : Type 0 where
   pub long : length l ≡ slab_size
-  pub line : ℓ < 18
   pub place : p < 9
   pub value : v < 16
   pub low : support l (ℓ * 9 + p) v < 65535
 
 -- The pattern of the word w can be added to the supports of a line.
 pub record WordAsk (lane : Lane) (w : ℕ) (l : List ℕ) : Type 0 where
-  pub size : Size lane.len
-  pub shaped : Shaped lane.len w
   pub long : length l ≡ slab_size
   pub low : (p v : ℕ) → p < 9 → v < 16 → support l (lane.number * 9 + p) v ≤ per_line
 
@@ -69,19 +64,17 @@ pub record Added (n ℓ : ℕ) (l l' ids : List ℕ) : Type 0 where
   pub rest : (q : ℕ) → Elsewhere ℓ q → get_or l' q 0 ≡ get_or l q 0
 
 -- They can be added to a line: there is room for them.
-pub record AddAsk (lane : Lane) (ws l ids : List ℕ) : Type 0 where
-  pub size : Size lane.len
-  pub words : Words lane.len ws
+pub record AddAsk (lane : Lane) (l ids : List ℕ) : Type 0 where
   pub long : length l ≡ slab_size
   pub room : lives l lane.number + length ids ≤ per_line
   pub low : (p v : ℕ) → p < 9 → v < 16 → support l (lane.number * 9 + p) v ≤ lives l lane.number
 
 -- Those of one line, one after the other: what is added so far and the rest are the whole.
-pub record Adding (lane : Lane) (ws l₀ l rest whole : List ℕ) : Type 0 where
+pub record Adding (lane : Lane) (l₀ l rest whole : List ℕ) : Type 0 where
   pub done : List ℕ
   pub added : Added lane.len lane.number l₀ l done
   pub is : done ++ rest ≡ whole
-  pub ask : AddAsk lane ws l rest
+  pub ask : AddAsk lane l rest
 
 -- Subset s has len digits, all of size n.
 pub record StartsAsk (n s len : ℕ) : Type 0 where
@@ -108,11 +101,6 @@ pub record Lists (n ℓ t : ℕ) (l : List ℕ) : Type 0 where
 -- The target of line ℓ.
 unfoldable pub target_at : List ℕ → List ℕ → ℕ → ℕ
 target_at rows columns ℓ = cond (ltb ℓ 9) (get_or rows ℓ 0) (get_or columns (ℓ - 9) 0)
-
--- What opening needs of the memory: the fresh state and the words of the size.
-pub record OpenAsk (n : ℕ) (ws l : List ℕ) : Type 0 where
-  pub fresh : Fresh n l
-  pub words : Words n ws
 
 -- Each line lists its arrangements, and nothing but lists and supports moved.
 pub record LinesListed (n : ℕ) (rows columns l l' : List ℕ) : Type 0 where

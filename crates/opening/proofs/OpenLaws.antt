@@ -108,7 +108,7 @@ module _ (n ℓ p : ℕ) (z : Size n) (h : p < n) where
 
 -- ---- the opened state
 
-module _ {n : ℕ} {ws rows columns l l₁ : List ℕ} (a : Listable n ws rows columns l) (d : LinesListed n rows columns l l₁) where
+module _ {n : ℕ} {rows columns l l₁ : List ℕ} (a : Listable n rows columns l) (d : LinesListed n rows columns l l₁) where
   fresh_sized : Sized l
   fresh_sized = (fresh_ready a.size a.fresh).sized
 

@@ -1,12 +1,13 @@
 // Opening: every line lists its arrangements, then the candidates without support are struck (in the Rust: seed_queue).
 #![tactic(auto)]
 
-ghost use Rattle.std.specs.Prelude.{◌≡◌, ◌+◌, ◌*◌, ◌≤◌, ◌<◌, length};
+ghost use Rattle.std.specs.Prelude.{◌≡◌, ◌+◌, ◌*◌, ◌<◌, length};
 ghost use Rattle.queue_state.specs.Layout.{slab_size};
 ghost use Rattle.queue_state.specs.Slab.{Sized, Struck};
-ghost use Rattle.listing.specs.Listing.{OpenAsk};
+ghost use Rattle.fresh.specs.Fresh.{Fresh};
 ghost use Rattle.opening.specs.Opening.{Lacks, BareCell, BareIn, BareTo, Opened};
 
+use arrangements::Arrangements;
 use grid_size::GridSize;
 use listing::list_arrangements;
 use puzzle::Puzzle;
@@ -65,10 +66,10 @@ fn seed_queue(st: &mut [u16], size: GridSize)
 }
 
 // The state of a puzzle before anything is propagated.
-pub fn open(st: &mut [u16], words: &[u32], p: Puzzle)
-    requires { OpenAsk p.size.n words.now st.old }
+pub fn open(st: &mut [u16], arrangements: Arrangements, p: Puzzle)
+    requires { Fresh p.size.n st.old × (arrangements.size.n ≡ p.size.n) }
     ensures { Opened p.entry.size.n p.entry.rows.now p.entry.columns.now st.old st.new }
 {
-    list_arrangements(st, words, p);
+    list_arrangements(st, arrangements, p);
     seed_queue(st, p.size);
 }

@@ -1,14 +1,7 @@
 -- The best cell among those that were looked at. Assumes nothing.
-use Rattle.std.specs.Prelude.{ℕ, ◌*◌, ◌%◌, ◌≤◌, ◌<◌, ◌≡◌, List, length, Option, Some, None}
-use Rattle.queue_state.specs.Layout.{slab_size}
-use Rattle.queue_state.specs.Ready.{Ready}
+use Rattle.std.specs.Prelude.{ℕ, ◌*◌, ◌%◌, ◌≤◌, ◌<◌, List, Option, Some, None}
 use Rattle.pick.specs.Choice.{row_choices, Open}
 use Rattle.pick.specs.declared.Best.{Best}
-
--- A cell's place in a state.
-pub record PlaceAsk (l : List ℕ) (cell : ℕ) : Type 0 where
-  pub size : length l ≡ slab_size
-  pub place : cell < 81
 
 -- The best of the cells before place k: an open cell, or none of them is open.
 abbrev pub Sought : ℕ → List ℕ → ℕ → Option Best → Type 0
@@ -17,6 +10,5 @@ Sought n l k None = (x : ℕ) → x < k → x % 9 < n → row_choices l x ≤ 1
 
 -- The best of the rows before row r.
 pub record BestRowAsk (n : ℕ) (l : List ℕ) (r : ℕ) (best : Option Best) : Type 0 where
-  pub ready : Ready n l
   pub row : r < n
   pub sought : Sought n l (r * 9) best

@@ -3,11 +3,11 @@
 #![tactic(auto)]
 
 ghost use Rattle.std.specs.Prelude.{◌≡◌, ◌+◌, ◌*◌, ◌<◌, IsSomeAnd};
-ghost use Rattle.queue_state.specs.Ready.{Ready};
 ghost use Rattle.pick.specs.Choice.{row_choices, RowCandidate, Picked};
-ghost use Rattle.pick.specs.Scanning.{PlaceAsk, Sought, BestRowAsk};
+ghost use Rattle.pick.specs.Scanning.{Sought, BestRowAsk};
 
 use queue_state::Slab;
+use state_view::StateView;
 use std::cmp::Reverse;
 use value::{Bits, Candidate, Value};
 
@@ -19,22 +19,22 @@ pub struct Best {
 }
 
 // How many row-half candidates a cell has.
-fn freedom(st: &[u16], cell: usize) -> u32
-    requires { PlaceAsk st.now cell }
-    ensures { result ≡ row_choices st.now cell }
+fn freedom(view: StateView, cell: usize) -> u32
+    requires { cell < 81 }
+    ensures { result ≡ row_choices view.entry.st.now cell }
 {
-    (st[cell] & Value::ROW_HALF).count_ones()
+    (view.st[cell] & Value::ROW_HALF).count_ones()
 }
 
 // Goes on through row r, up to a cell with two candidates: one with a choice at all, then the fewest candidates, then the first.
-fn pick_row(st: &[u16], n: usize, r: usize, start: Option<Best>) -> Option<Best>
-    requires { BestRowAsk n st.now r start }
-    ensures { Sought n st.now (r * 9 + 9) result }
+fn pick_row(view: StateView, r: usize, start: Option<Best>) -> Option<Best>
+    requires { BestRowAsk view.n view.st.now r start }
+    ensures { Sought view.entry.n view.entry.st.now (r * 9 + 9) result }
 {
     let mut best = start;
-    for c in 0..n {
+    for c in 0..view.n {
         let cell = r * 9 + c;
-        let free = freedom(st, cell);
+        let free = freedom(view, cell);
         if free >= 2 && best.is_none_or(|old| free < old.free) {
             best = Some(Best { cell, free });
             if free == 2 {
@@ -45,13 +45,12 @@ fn pick_row(st: &[u16], n: usize, r: usize, start: Option<Best>) -> Option<Best>
     best
 }
 
-fn pick_cell(st: &[u16], n: usize) -> Option<Best>
-    requires { Ready n st.now }
-    ensures { Sought n st.now (n * 9) result }
+fn pick_cell(view: StateView) -> Option<Best>
+    ensures { Sought view.entry.n view.entry.st.now (view.entry.n * 9) result }
 {
     let mut best = None;
-    for r in 0..n {
-        best = pick_row(st, n, r, best);
+    for r in 0..view.n {
+        best = pick_row(view, r, best);
         if matches!(best, Some(Best { free: 2, .. })) {
             return best;
         }
@@ -60,21 +59,20 @@ fn pick_cell(st: &[u16], n: usize) -> Option<Best>
 }
 
 // The row-half candidate of a cell with the least support in its row, the highest among equals.
-fn pick_value(st: &[u16], cell: usize) -> Option<usize>
-    requires { (PlaceAsk st.now cell) × (0 < row_choices st.now cell) }
-    ensures { IsSomeAnd result (RowCandidate st.now cell) }
+fn pick_value(view: StateView, cell: usize) -> Option<usize>
+    requires { (cell < 81) × (0 < row_choices view.st.now cell) }
+    ensures { IsSomeAnd result (RowCandidate view.entry.st.now cell) }
 {
-    let rest = st[cell] & Value::ROW_HALF;
+    let rest = view.st[cell] & Value::ROW_HALF;
     let support = Slab::SUPPORT + cell * 16;
-    Bits { rest }.max_by_key(|&v| Reverse(st[support + v]))
+    Bits { rest }.max_by_key(|&v| Reverse(view.st[support + v]))
 }
 
 // A cell to branch on and the value to take there, or nothing where no cell has a choice.
-pub fn pick_branch(st: &[u16], n: usize) -> Option<Candidate>
-    requires { Ready n st.now }
-    ensures { Picked n st.now result }
+pub fn pick_branch(view: StateView) -> Option<Candidate>
+    ensures { Picked view.entry.n view.entry.st.now result }
 {
-    let best = pick_cell(st, n)?;
-    let value = pick_value(st, best.cell)?;
+    let best = pick_cell(view)?;
+    let value = pick_value(view, best.cell)?;
     Some(Candidate::at(best.cell, value))
 }

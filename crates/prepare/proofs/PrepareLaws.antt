@@ -3,7 +3,6 @@ use Prim.Native.Nat.{ℕ}
 use mathlib.Core.Path.{◌≡◌, refl, sym, ◌∙◌}
 use mathlib.Core.Bool.{Bool, true, false, true≢false}
 use mathlib.Core.List.{List, Memᴰ}
-use lib.ListN.{length}
 use Rattle.tally.proofs.TallyLaws.{false_of}
 use Rattle.rules.specs.Size.{Size}
 use Rattle.rules.specs.Check.{refusal}
@@ -16,42 +15,36 @@ use Rattle.soundness.specs.Marks.{Whole, AcceptedMark}
 use Rattle.soundness.proofs.MarkLaws as marks
 use Rattle.queue_state.specs.Slab.{table_in}
 use Rattle.fresh.specs.Fresh.{Blank, Fresh}
-use Rattle.words.specs.Word.{Words}
-use Rattle.listing.specs.Listing.{OpenAsk}
 use Rattle.opening.specs.Opening.{Opened}
 use Rattle.rules.specs.Grid.{Puzzle, puzzle}
 use Rattle.puzzle.specs.Accepted.{AcceptedPuzzle}
 use Rattle.puzzle.specs.Stands.{puzzle_of}
-use Rattle.invariants.specs.State.{Kept, Lagging, PropagateAsk, Propagated}
+use Rattle.invariants.specs.State.{Kept, Lagging, Propagated}
 use Rattle.apply_marks.specs.Applied.{MarksApplied}
 use Rattle.prepare.specs.declared.Question.{Question}
 use Rattle.prepare.specs.Prepared.{Prepared}
 use Rattle.prepare.proofs.Begun.{begun_lagging, begun_kept, begun_whole}
 
 -- A puzzle and marks that are not refused, and blank memory.
-pub record PrepareAsk (p : Puzzle) (ms ws l : List ℕ) : Type 0 where
+pub record PrepareAsk (p : Puzzle) (ms l : List ℕ) : Type 0 where
   pub puzzle : AcceptedPuzzle p
   pub marks : refusal (mark_checks p.size ms) ≡ 0
-  pub room : length ws ≡ 1152
   pub blank : Blank l
 
-pub asked : (q : Question) {ws l : List ℕ} → (length ws ≡ 1152) × Blank l → PrepareAsk (puzzle_of q.puzzle) (marks_of q.marks.now) ws l
-asked q e = record { puzzle = q.puzzle.accepted; marks = q.marks_pass; room = e.0; blank = e.1 }
+pub asked : (q : Question) {l : List ℕ} → Blank l → PrepareAsk (puzzle_of q.puzzle) (marks_of q.marks.now) l
+asked q e = record { puzzle = q.puzzle.accepted; marks = q.marks_pass; blank = e }
 
-module _ {n : ℕ} {rows columns ms ws₀ l₀ : List ℕ} (a : PrepareAsk (puzzle n rows columns) ms ws₀ l₀) where
+module _ {n : ℕ} {rows columns ms l₀ : List ℕ} (a : PrepareAsk (puzzle n rows columns) ms l₀) where
   good : AcceptedPuzzle (puzzle n rows columns)
   good = a.puzzle
 
   pub prepare_size : Size n
   prepare_size = good.size
 
-  module _ {ws l : List ℕ} (w : Words n ws) (f : Fresh n l) where
-    pub prepare_open : OpenAsk n ws l
-    prepare_open = record { fresh = f; words = w }
-
+  module _ {l : List ℕ} (f : Fresh n l) where
     module _ {l₁ : List ℕ} (o : Opened n rows columns l l₁) where
-      pub prepare_propagable : PropagateAsk n ws l₁
-      prepare_propagable = record { words = w; lagging = begun_lagging prepare_size f o }
+      pub prepare_lagging : Lagging n l₁ 0
+      prepare_lagging = begun_lagging prepare_size f o
 
       kept₁ : Kept (puzzle n rows columns) l₁
       kept₁ = begun_kept prepare_size f o
@@ -64,7 +57,7 @@ module _ {n : ℕ} {rows columns ms ws₀ l₀ : List ℕ} (a : PrepareAsk (puzz
         marks_in = marks.accepted n ms a.marks
 
         -- a cell is empty, and the marks do not fill it
-        pub prepare_none : b ≡ false → Prepared (puzzle n rows columns) ms ws l₂ false
+        pub prepare_none : b ≡ false → Prepared (puzzle n rows columns) ms l₂ false
         prepare_none e =
             let q = d.emptied e in
             record {
@@ -78,12 +71,12 @@ module _ {n : ℕ} {rows columns ms ws₀ l₀ : List ℕ} (a : PrepareAsk (puzz
           pub prepare_marks : Lagging n l₂ 0
           prepare_marks = d.lagging t
 
-          pub prepare_done : {l₃ : List ℕ} → MarksApplied n l₂ l₃ ms → Prepared (puzzle n rows columns) ms ws l₃ true
+          pub prepare_done : {l₃ : List ℕ} → MarksApplied n l₂ l₃ ms → Prepared (puzzle n rows columns) ms l₃ true
           prepare_done {l₃} m =
               record {
                 none = λ e. absurd (true≢false e);
                 marked = λ _. record {
-                  propagable = record { words = w; lagging = m.lagging };
+                  lagging = m.lagging;
                   kept = m.kept (puzzle n rows columns) refl (d.kept t (puzzle n rows columns) refl kept₁);
                   before = l₂;
                   whole = whole₂;

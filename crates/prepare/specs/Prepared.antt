@@ -5,17 +5,17 @@ use Rattle.rules.specs.Number.{number}
 use Rattle.table.specs.Steps.{marked_all}
 use Rattle.soundness.specs.Marks.{Whole}
 use Rattle.queue_state.specs.Slab.{table_in}
-use Rattle.invariants.specs.State.{Kept, PropagateAsk}
+use Rattle.invariants.specs.State.{Kept, Lagging}
 
 -- A state that may be searched: its table is a whole one after the marks.
-pub record Marked (p : Puzzle) (ms ws l : List ℕ) : Type 0 where
-  pub propagable : PropagateAsk p.size ws l
+pub record Marked (p : Puzzle) (ms l : List ℕ) : Type 0 where
+  pub lagging : Lagging p.size l 0
   pub kept : Kept p l
   pub before : List ℕ
   pub whole : Whole p (table_in before)
   pub table : (r c v : ℕ) → r < 9 → c < 9 → v < 16 → table_in l r c v ≡ marked_all (table_in before) ms r c v
 
 -- What it gives: such a state, or that no grid is left.
-pub record Prepared (p : Puzzle) (ms ws l : List ℕ) (ok : Bool) : Type 0 where
+pub record Prepared (p : Puzzle) (ms l : List ℕ) (ok : Bool) : Type 0 where
   pub none : ok ≡ false → number p ms ≡ 0
-  pub marked : ok ≡ true → Marked p ms ws l
+  pub marked : ok ≡ true → Marked p ms l

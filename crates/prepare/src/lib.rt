@@ -6,10 +6,12 @@ ghost use Rattle.rules.specs.Mark.{marks_of};
 ghost use Rattle.rules.specs.Check.{refusal};
 ghost use Rattle.rules.specs.CheckParts.{mark_checks};
 ghost use Rattle.puzzle.specs.Stands.{puzzle_of};
+ghost use Rattle.words.specs.Word.{Words};
 ghost use Rattle.fresh.specs.Fresh.{Blank};
 ghost use Rattle.prepare.specs.Prepared.{Prepared};
 
 use apply_marks::apply_marks;
+use arrangements::Arrangements;
 use fresh::fresh;
 use opening::open;
 use propagate::{Contradicted, propagate};
@@ -24,16 +26,18 @@ pub struct Question<'a> {
     pub ghost marks_pass: { refusal (mark_checks puzzle.size.n (marks_of marks.now)) ≡ 0 },
 }
 
-// The state of a question, unless a cell is left without candidates before the marks, so that no grid is left.
+// The state of a question, unless a cell is left without candidates before the marks, so that no grid is left. The words are filled either way.
 pub fn prepare(st: &mut [u16], words: &mut [u32], q: Question) -> Result<(), Contradicted>
     requires { (length words.old ≡ 1152) × Blank st.old }
-    ensures { Prepared (puzzle_of q.entry.puzzle) (marks_of q.entry.marks.now) words.new st.new (is_ok result) }
+    ensures filled { Words q.entry.puzzle.size.n words.new }
+    ensures state { Prepared (puzzle_of q.entry.puzzle) (marks_of q.entry.marks.now) st.new (is_ok result) }
 {
     let size = q.puzzle.size;
     fill_words(words, size);
+    let arrangements = Arrangements { size, words };
     fresh(st, size);
-    open(st, words, q.puzzle);
-    propagate(st, words, size.n)?;
+    open(st, arrangements, q.puzzle);
+    propagate(st, arrangements)?;
     apply_marks(st, size.n, q.marks);
     Ok(())
 }

@@ -17,9 +17,8 @@ use Rattle.queue_state.specs.Slab.{cand, table_in, tail, entry, lag}
 use Rattle.queue_state.proofs.SlabLaws.{cand_in}
 use Rattle.queue_state.proofs.ReadyLaws.{ready_grown, lag_pop}
 use Rattle.queue_state.specs.Ready.{Valid, Next}
-use Rattle.words.specs.Word.{Words}
 use Rattle.counters.proofs.CounterLaws.{next_valid}
-use Rattle.invariants.specs.State.{Occupied, Lagging, PropagateAsk, Propagated}
+use Rattle.invariants.specs.State.{Occupied, Lagging, Propagated}
 use Rattle.propagate.proofs.FlowLaws.{flows_refl, flows_both}
 use Rattle.propagate.specs.Flow.{Flows}
 use Rattle.propagate.specs.Update.{UpdateAsk, UpdateDone}
@@ -35,17 +34,16 @@ one_bit (suc w) m h d =
     ]
 
 -- After the strikes before the head.
-pub record Propagating (n : ℕ) (ws l₀ l : List ℕ) (head : ℕ) : Type 0 where
-  pub words : Words n ws
+pub record Propagating (n : ℕ) (l₀ l : List ℕ) (head : ℕ) : Type 0 where
   pub lagging : Lagging n l head
   pub size : length l ≡ length l₀
   pub sub : (x v : ℕ) → v < 16 → cand l x v ≤ cand l₀ x v
   pub flows : Flows n l₀ l
 
-pub loop_start : {n : ℕ} {ws l : List ℕ} → PropagateAsk n ws l → Propagating n ws l l 0
-loop_start {n} {ws} {l} a = record { words = a.words; lagging = a.lagging; size = refl; sub = λ x v h. omega arith; flows = flows_refl n l }
+pub loop_start : {n : ℕ} {l : List ℕ} → Lagging n l 0 → Propagating n l l 0
+loop_start {n} {l} a = record { lagging = a; size = refl; sub = λ x v h. omega arith; flows = flows_refl n l }
 
-module _ {n : ℕ} {ws l₀ l : List ℕ} {head : ℕ} (g : Propagating n ws l₀ l head) where
+module _ {n : ℕ} {l₀ l : List ℕ} {head : ℕ} (g : Propagating n l₀ l head) where
   pub loop_size : length l ≡ slab_size
   loop_size = g.lagging.ready.sized.size
 
@@ -65,10 +63,9 @@ module _ {n : ℕ} {ws l₀ l : List ℕ} {head : ℕ} (g : Propagating n ws l�
     cell_place : e / 16 / 9 * 9 + e / 16 % 9 ≡ e / 16
     cell_place = omega arith
 
-    pub loop_ask : UpdateAsk n ws l (e / 16 / 9) (e / 16 % 9) (e % 16)
+    pub loop_ask : UpdateAsk n l (e / 16 / 9) (e / 16 % 9) (e % 16)
     loop_ask =
         record {
-          words = g.words;
           head = head;
           strike = record {
             ready = g.lagging.ready;
@@ -121,10 +118,9 @@ module _ {n : ℕ} {ws l₀ l : List ℕ} {head : ℕ} (g : Propagating n ws l�
               let s = same_no (y * 16 + o.0) (e / 16 * 16 + e % 16) (λ x. q (omega (arith, o.1))) in
               (o.0, o.1, omega (arith, d.grown.lags (head + 1) y o.0 (omega arith) o.1, lag_pop next y o.0, o.2, s))
 
-      pub loop_next : Propagating n ws l₀ l' (head + 1)
+      pub loop_next : Propagating n l₀ l' (head + 1)
       loop_next =
           record {
-            words = g.words;
             lagging = record {
               ready = ready_grown d.grown g.lagging.ready;
               upto = omega (arith, d.grown.grows);

@@ -165,8 +165,8 @@ module _ {n : ℕ} {l : List ℕ} (empty : tail l ≡ 0) (g : Lagging n l 0) whe
 
 -- ---- the end of the loop
 
-pub loop_end : {n : ℕ} {ws l₀ l l' : List ℕ} {head : ℕ} → Propagating n ws l₀ l head → tail l ≤ head → l' ≡ set l tail_at 0 → Propagated n l₀ l' true
-loop_end {n} {ws} {l₀} {l} {l'} {head} g stop is =
+pub loop_end : {n : ℕ} {l₀ l l' : List ℕ} {head : ℕ} → Propagating n l₀ l head → tail l ≤ head → l' ≡ set l tail_at 0 → Propagated n l₀ l' true
+loop_end {n} {l₀} {l} {l'} {head} g stop is =
     let z = g.lagging.ready.sized.size in
     let at : head ≡ tail l = omega (arith, g.lagging.upto) in
     let r = reset_lagging l l' z is (subst (Lagging n l) at g.lagging) in

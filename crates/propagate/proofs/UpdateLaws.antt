@@ -29,7 +29,7 @@ struck_gone {l} {h} {x} {v} o k =
     let q = sum_has 0 (tail l - 0) h (λ (i : ℕ). same (x * 16 + v) (entry l i)) (omega arith) (omega (arith, k.waiting)) in
     omega arith
 
-module _ {n : ℕ} {ws l : List ℕ} {r c v : ℕ} (a : UpdateAsk n ws l r c v) where
+module _ {n : ℕ} {l : List ℕ} {r c v : ℕ} (a : UpdateAsk n l r c v) where
   small : n ≤ 9
   small = a.strike.ready.size.high
 
@@ -76,12 +76,11 @@ module _ {n : ℕ} {ws l : List ℕ} {r c v : ℕ} (a : UpdateAsk n ws l r c v) 
             arc_moved d₃.moved (omega arith) (omega (arith, both.grows))
             (arc_moved d₂.moved (omega arith) (omega (arith, d₁.moved.grown.grows)) (arc_moved d₁.moved (omega arith) (omega arith) t))
 
-        pub update_fourth : ArcAsk n ws l₃ r c v
+        pub update_fourth : ArcAsk n l₃ r c v
         update_fourth =
             let w : v < 16 = omega (arith, value_range small a.strike.value) in
             record {
               ready = ready_grown before a.strike.ready;
-              words = a.words;
               row = a.strike.row;
               column = a.strike.column;
               value = a.strike.value;

@@ -2,14 +2,12 @@
 use Rattle.std.specs.Prelude.{ℕ, ◌+◌, ◌*◌, ◌≤◌, ◌<◌, List}
 use Rattle.queue_state.specs.Slab.{lag, Grown}
 use Rattle.queue_state.specs.Ready.{Next}
-use Rattle.words.specs.Word.{Words}
 use Rattle.singles.specs.Handling.{Handling}
 use Rattle.invariants.specs.State.{Counted}
 use Rattle.propagate.specs.Flow.{Flows}
 
 -- What it asks: the strike at the head, with all counters up to it.
-pub record UpdateAsk (n : ℕ) (ws l : List ℕ) (r c v : ℕ) : Type 0 where
-  pub words : Words n ws
+pub record UpdateAsk (n : ℕ) (l : List ℕ) (r c v : ℕ) : Type 0 where
   pub head : ℕ
   pub strike : Handling n l r c v head
   pub once : (x w : ℕ) → w < 16 → lag l 0 x w ≤ 1

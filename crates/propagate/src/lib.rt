@@ -2,10 +2,11 @@
 #![tactic(auto)]
 
 ghost use Rattle.std.specs.Prelude.{is_ok};
-ghost use Rattle.invariants.specs.State.{PropagateAsk, Propagated};
+ghost use Rattle.invariants.specs.State.{Lagging, Propagated};
 ghost use Rattle.propagate.specs.Update.{UpdateAsk, UpdateDone};
 
 use arcs::update_arc;
+use arrangements::Arrangements;
 use queue_state::Slab;
 use singles::{update_black_consistency, update_hidden_singles, update_singleton};
 use value::Candidate;
@@ -15,20 +16,21 @@ use value::Candidate;
 pub struct Contradicted;
 
 // All handlers of a strike.
-fn update(st: &mut [u16], words: &[u32], n: usize, x: Candidate)
-    requires { UpdateAsk n words.now st.old x.row x.column x.value }
-    ensures { UpdateDone n st.old st.new x.row x.column x.value }
+fn update(st: &mut [u16], arrangements: Arrangements, x: Candidate)
+    requires { UpdateAsk arrangements.size.n st.old x.row x.column x.value }
+    ensures { UpdateDone arrangements.entry.size.n st.old st.new x.row x.column x.value }
 {
+    let n = arrangements.size.n;
     update_singleton(st, n, x);
     update_hidden_singles(st, n, x);
     update_black_consistency(st, n, x);
-    update_arc(st, words, n, x);
+    update_arc(st, arrangements, x);
 }
 
 // Propagates until no strike waits, unless a cell is left without candidates. The queue grows while it is handled, so that no range says its end: a `while`.
-pub fn propagate(st: &mut [u16], words: &[u32], n: usize) -> Result<(), Contradicted>
-    requires { PropagateAsk n words.now st.old }
-    ensures { Propagated n st.old st.new (is_ok result) }
+pub fn propagate(st: &mut [u16], arrangements: Arrangements) -> Result<(), Contradicted>
+    requires { Lagging arrangements.size.n st.old 0 }
+    ensures { Propagated arrangements.entry.size.n st.old st.new (is_ok result) }
 {
     let mut head = 0;
     while head < usize::from(st[Slab::TAIL]) {
@@ -37,7 +39,7 @@ pub fn propagate(st: &mut [u16], words: &[u32], n: usize) -> Result<(), Contradi
         if st[cell] == 0 {
             return Err(Contradicted);
         }
-        update(st, words, n, Candidate::at(cell, strike % 16));
+        update(st, arrangements, Candidate::at(cell, strike % 16));
         head += 1;
     }
     st[Slab::TAIL] = 0;

@@ -1,8 +1,8 @@
 // The state of the queue solver in one slice of numbers, and its primitives (in the Rust: QueueSolverState and clear_mask).
 // What stands where is said twice, by the same names: here for the code, in specs/Layout.antt for the definitions.
 // A cell has the place row * 9 + column, a line the number row or 9 + column, at every size: by these the slice has them, so they are numbers.
-// The project lends the state as a slice, with the size beside it, and copies no large struct. What a function asks of it stands in a contract and not in a
-// type: a type would ask it at all times, and between two steps it does not hold.
+// The project lends the state as a slice, with the size beside it, and copies no large struct. What a function that changes it asks of it stands in a contract
+// and not in a type: a type would ask it at all times, and between two steps it does not hold. Where it is only read, crates/state_view has the type.
 #![tactic(auto)]
 
 ghost use Rattle.std.specs.Prelude.{◌≡◌, ◌-◌, ◌<◌, get_or, set};

@@ -21,8 +21,8 @@ use Rattle.bits.proofs.BitLaws.{bit_lt, bit_and_lem, bit_none, Lowest, trailing_
 use Rattle.queue_state.specs.Slab.{cand, table_in}
 use Rattle.queue_state.proofs.SlabLaws.{cand_in}
 use Rattle.queue_state.proofs.ReadyLaws.{ready_valid}
+use Rattle.queue_state.specs.Ready.{Ready}
 use Rattle.table.specs.Value.{ValueOf}
-use Rattle.written.specs.Published.{WriteCellAsk}
 
 module _ (q : ℕ → Bool) (d : ℕ) where
   first_none : (a k : ℕ) → ((j : ℕ) → a ≤ j → j < a + k → q j ≡ false) → first q d (span a k) ≡ d
@@ -58,12 +58,12 @@ in_digits v h e = (
   elim (dec_lt v 8) [ yes q ↦ q | no q ↦ absurd (omega (arith, black_mask v (omega arith) h)) ],
 )
 
-module _ {n : ℕ} {l : List ℕ} {r c : ℕ} (p : WriteCellAsk n l r c) where
+module _ {n : ℕ} {l : List ℕ} {r c : ℕ} (s : Ready n l) (row : r < n) (column : c < n) where
   abbrev m : ℕ
   m = get_or l (r * 9 + c) 0
 
   is_bit : (v : ℕ) → cand l (r * 9 + c) v ≡ bit v m
-  is_bit v = cand_in l (r * 9 + c) v (omega (arith, p.row, p.column, p.ready.size.high))
+  is_bit v = cand_in l (r * 9 + c) v (omega (arith, row, column, s.size.high))
 
   in_table : (v : ℕ) → bit v m ≡ 1 → table_in l r c v ≡ true
   unfolding table_in
@@ -74,13 +74,13 @@ module _ {n : ℕ} {l : List ℕ} {r c : ℕ} (p : WriteCellAsk n l r c) where
   not_in_table v e = ne_eqb (cand l (r * 9 + c) v) 1 (λ q. omega (arith, is_bit v))
 
   absent : (v : ℕ) → 1 ≤ v → v < n - 1 → bit v (bit_and m 254) ≡ 0 → table_in l r c v ≡ false
-  absent v h g e = not_in_table v (omega (arith, bit_and_lem v m 254, digit_mask v h (omega (arith, p.ready.size.high)), bit_lt v m))
+  absent v h g e = not_in_table v (omega (arith, bit_and_lem v m 254, digit_mask v h (omega (arith, s.size.high)), bit_lt v m))
 
   -- no digit is left
   pub read_black : bit_and m 254 ≡ 0 → 255 ≡ read_cell n (table_in l r c)
   unfolding read_cell digits
   read_black e =
-      sym (first_none (table_in l r c) 255 1 (n - 2) (λ v h g. absent v h (omega (arith, p.ready.size.low)) (ap (bit v) e ∙ bit_none v)))
+      sym (first_none (table_in l r c) 255 1 (n - 2) (λ v h g. absent v h (omega (arith, s.size.low)) (ap (bit v) e ∙ bit_none v)))
 
   module _ (f : m < 2 ^ 16) (some : (bit_and m 254 ≡ 0) → ⊥) where
     abbrev t : ℕ
@@ -97,7 +97,7 @@ module _ {n : ℕ} {l : List ℕ} {r c : ℕ} (p : WriteCellAsk n l r c) where
     unfolding ValueOf
     digit =
         let d = in_digits t lowest.in_width both.1 in
-        ⊎_elim (λ w. w) (λ w. absurd (omega (arith, d, w))) (ready_valid p.ready (r * 9 + c) t lowest.in_width (is_bit t ∙ both.0)).value
+        ⊎_elim (λ w. w) (λ w. absurd (omega (arith, d, w))) (ready_valid s (r * 9 + c) t lowest.in_width (is_bit t ∙ both.0)).value
 
     -- the lowest digit
     pub read_digit : t ≡ read_cell n (table_in l r c)

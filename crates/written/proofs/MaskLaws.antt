@@ -144,6 +144,7 @@ module _ {n : ℕ} {l : List ℕ} (s : Ready n l) (r c : ℕ) (row : r < n) (col
             ]
       ]
 
-pub published_whole : {n : ℕ} {l table : List ℕ} → Ready n l → ((i : ℕ) → get_or l i 0 < 65536) → table ≡ published n l → PublishedTable n l table
+pub published_whole : {n : ℕ} {l table : List ℕ} → Ready n l → ((r c : ℕ) → r < n → c < n → get_or l (r * 9 + c) 0 < 65536) →
+    table ≡ published n l → PublishedTable n l table
 published_whole {n} {l} s small e =
-    record { masks = e; plain = λ r c h k b q. published_plain s r c h k (small _) b (ap (λ t. has_bit (cell n t r c) b) (sym e) ∙ q) }
+    record { masks = e; plain = λ r c h k b q. published_plain s r c h k (small r c h k) b (ap (λ t. has_bit (cell n t r c) b) (sym e) ∙ q) }

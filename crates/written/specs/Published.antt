@@ -5,7 +5,6 @@ use Rattle.rules.specs.Grid.{cell}
 use Rattle.table.specs.Table.{has_bit, bit_of}
 use Rattle.table.specs.Reading.{read_cell}
 use Rattle.queue_state.specs.Slab.{table_in}
-use Rattle.queue_state.specs.Ready.{Ready}
 use Rattle.table.specs.Value.{ValueOf}
 
 -- The mask of a cell as it is written: the digits keep their bits, the blacks move from 8 .. 11 to n - 1 .. n + 2.
@@ -28,9 +27,3 @@ mask_at n l r c = mask n (get_or l (r * 9 + c) 0)
 -- The byte of a cell of a settled table.
 abbrev pub cell_byte : ℕ → List ℕ → ℕ → ℕ → ℕ
 cell_byte n l r c = read_cell n (table_in l r c)
-
--- A cell of the grid.
-pub record WriteCellAsk (n : ℕ) (l : List ℕ) (r c : ℕ) : Type 0 where
-  pub ready : Ready n l
-  pub row : r < n
-  pub column : c < n

@@ -2,31 +2,33 @@
 // Called once for each call of the library, for at most 81 entries: its time does not matter.
 #![tactic(auto)]
 
-ghost use Rattle.std.specs.Prelude.{◌≡◌, ℕ, ◌+◌, ◌*◌, ◌<◌, length, slice_index_or};
+ghost use Rattle.std.specs.Prelude.{◌≡◌, ℕ, ◌+◌, ◌*◌, ◌<◌, length, get_or, slice_index_or};
 ghost use Rattle.table.specs.Reading.{read_off};
 ghost use Rattle.queue_state.specs.Slab.{table_in};
-ghost use Rattle.queue_state.specs.Ready.{Ready};
-ghost use Rattle.written.specs.Published.{mask_at, cell_byte, PublishedTable, WriteCellAsk};
+ghost use Rattle.written.specs.Published.{mask_at, cell_byte, PublishedTable};
 
+use state_view::StateView;
 use value::Value;
 
-// The mask of a cell as it is written: the digits keep their bits, the blacks move behind them.
+// The mask of a cell as it is written: the digits keep their bits, the blacks move behind them. That the state's number has 16 bits is promised here, where it
+// is read: of a slice in a struct no type says it to the caller.
 #[tactic(auto, using(crate::proofs::MaskLaws::mask_room, crate::proofs::MaskLaws::mask_is))]
-fn read_mask(st: &[u16], n: usize, r: usize, c: usize) -> u16
-    requires { WriteCellAsk n st.now r c }
-    ensures { result ≡ mask_at n st.now r c }
+fn read_mask(view: StateView, r: usize, c: usize) -> u16
+    requires { (r < view.n) × (c < view.n) }
+    ensures is { result ≡ mask_at view.entry.n view.entry.st.now r c }
+    ensures small { get_or view.entry.st.now (r * 9 + c) 0 < 65536 }
 {
-    let m = st[r * 9 + c];
-    m % 256 + (m / 256 << (n - 1))
+    let m = view.st[r * 9 + c];
+    m % 256 + (m / 256 << (view.n - 1))
 }
 
 // The lowest digit that a cell may have, or black.
 #[tactic(auto, using(crate::proofs::CellLaws::read_black, crate::proofs::CellLaws::read_digit))]
-fn read_cell(st: &[u16], n: usize, r: usize, c: usize) -> u8
-    requires { WriteCellAsk n st.now r c }
-    ensures { result ≡ cell_byte n st.now r c }
+fn read_cell(view: StateView, r: usize, c: usize) -> u8
+    requires { (r < view.n) × (c < view.n) }
+    ensures { result ≡ cell_byte view.entry.n view.entry.st.now r c }
 {
-    let digits = st[r * 9 + c] & Value::DIGITS;
+    let digits = view.st[r * 9 + c] & Value::DIGITS;
     if digits == 0 {
         Value::BLACK
     } else {
@@ -57,16 +59,16 @@ fn write_rows<T: Copy, F: Fn(usize, usize) -> T>(table: &mut [T], n: usize, entr
     }
 }
 
-pub fn write_candidates(st: &[u16], n: usize, table: &mut [u16])
-    requires { (Ready n st.now) × (length table.old ≡ n * n) }
-    ensures { PublishedTable n st.now table.new }
+pub fn write_candidates(view: StateView, table: &mut [u16])
+    requires { length table.old ≡ view.n * view.n }
+    ensures { PublishedTable view.entry.n view.entry.st.now table.new }
 {
-    write_rows(table, n, |r, c| read_mask(st, n, r, c));
+    write_rows(table, view.n, |r, c| read_mask(view, r, c));
 }
 
-pub fn write_grid(st: &[u16], n: usize, cells: &mut [u8])
-    requires { (Ready n st.now) × (length cells.old ≡ n * n) }
-    ensures { cells.new ≡ read_off n (table_in st.now) }
+pub fn write_grid(view: StateView, cells: &mut [u8])
+    requires { length cells.old ≡ view.n * view.n }
+    ensures { cells.new ≡ read_off view.entry.n (table_in view.entry.st.now) }
 {
-    write_rows(cells, n, |r, c| read_cell(st, n, r, c));
+    write_rows(cells, view.n, |r, c| read_cell(view, r, c));
 }

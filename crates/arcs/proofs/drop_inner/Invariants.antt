@@ -5,7 +5,7 @@ use Rattle.arcs.proofs.WalkLaws.{Walking}
 use Rattle.arcs.proofs.drop_inner.Given as goal
 
 abbrev pub invariant-loop-p : goal.invariant-loop-p
-invariant-loop-p l = Walking l.lane.len l.lane.number l.w l.initial.st l.st l.p
+invariant-loop-p l = Walking l.fn.a.lane.len l.fn.a.lane.number l.fn.a.word l.initial.st l.st l.p
 
 abbrev pub decreases-loop-p : goal.decreases-loop-p
-decreases-loop-p l = steps l.lane.len (from_of l.w) (to_of l.w) - steps l.lane.len (from_of l.w) l.p
+decreases-loop-p l = steps l.fn.a.lane.len (from_of l.fn.a.word) (to_of l.fn.a.word) - steps l.fn.a.lane.len (from_of l.fn.a.word) l.p

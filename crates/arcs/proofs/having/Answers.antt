@@ -9,21 +9,18 @@ use Rattle.arcs.proofs.having.Goals as goal
 pub loop-q-init : goal.loop-q-init
 loop-q-init c = having_start _ _ _
 
-pub overflow_mul-q : goal.overflow_mul-q
-overflow_mul-q c = omega (arith, lane_in c.args.lane c.loop-q.q c.loop-q-test.true, c.requires.size)
+pub cell-requires : goal.cell-requires
+cell-requires c = lane_in c.args.arranged.lane c.loop-q.q c.loop-q-test.true
 
-pub overflow_add-lane : goal.overflow_add-lane
-overflow_add-lane c = omega (arith, lane_in c.args.lane c.loop-q.q c.loop-q-test.true, c.requires.size)
+pub offset_bounds-st-cell : goal.offset_bounds-st-cell
+offset_bounds-st-cell c = omega (arith, c.cell.ensures, lane_in c.args.arranged.lane c.loop-q.q c.loop-q-test.true, c.requires.0)
 
-pub offset_bounds-st-lane : goal.offset_bounds-st-lane
-offset_bounds-st-lane c = omega (arith, lane_in c.args.lane c.loop-q.q c.loop-q-test.true, c.requires.size)
-
-pub bounds-st-lane : goal.bounds-st-lane
-bounds-st-lane c = omega (arith, lane_in c.args.lane c.loop-q.q c.loop-q-test.true, c.requires.size)
+pub bounds-st-cell : goal.bounds-st-cell
+bounds-st-cell c = omega (arith, c.cell.ensures, lane_in c.args.arranged.lane c.loop-q.q c.loop-q-test.true, c.requires.0)
 
 pub loop-q-preserved : goal.loop-q-preserved
 unfolding bit
-loop-q-preserved c = having_next _ c.requires c.loop-q.invariant c.loop-q-test.true c.from.ensures
+loop-q-preserved c = having_next _ _ _ _ c.loop-q.invariant c.loop-q-test.true (rw c.cell.ensures at c.from.ensures)
 
 pub returns : goal.returns
-returns c = let e : c.loop-q.q ≡ 9 = omega arith in having_end _ c.requires (rw e at c.loop-q.invariant)
+returns c = let e : c.loop-q.q ≡ 9 = omega arith in having_end _ _ _ _ c.args.arranged.fits.high (rw e at c.loop-q.invariant)

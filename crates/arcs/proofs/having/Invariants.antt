@@ -3,4 +3,4 @@ use Rattle.arcs.specs.Have.{Have}
 use Rattle.arcs.proofs.having.Given as goal
 
 abbrev pub invariant-loop-q : goal.invariant-loop-q
-invariant-loop-q l = Have l.lane l.v l.st l.q l.have
+invariant-loop-q l = Have l.arranged.lane l.v l.st l.q l.have

@@ -2,29 +2,18 @@
 use mathlib.Core.Path.{◌≡◌, sym, ◌∙◌}
 use mathlib.Core.Bool.{Bool, true, ◌&&◌}
 use mathlib.Core.List.{List}
-use native.Mathlib.Omega.{arith}
 use lib.Dec.{eqb}
 use lib.ListN.{length}
 use Prim.Native.Nat.{ℕ, ◌*◌}
 use Rattle.tally.proofs.TallyLaws.{and_left}
 use Rattle.backtrack.specs.Search.{SearchAsk}
-use Rattle.backtrack.proofs.SearchLaws.{Turn, turn_start, turn_capped, turn_none, turn_one, turn_ask, turn_searchable, turn_fewer, turn_less, turn_again}
+use Rattle.backtrack.proofs.SearchLaws.{Turn, turn_one, turn_ask, turn_searchable, turn_fewer, turn_less, turn_again}
 use Rattle.backtrack.proofs.+search.Goals as goal
 
 -- the cells have room if the next grid is the first that is wanted
-first_fits : {n : ℕ} {ws l₀ l : List ℕ} {max found : ℕ} {wanted first : Bool} {cells₀ cells : List ℕ} → Turn n ws l₀ max wanted cells₀ l found cells →
-    SearchAsk n ws l₀ wanted (length cells₀) → first ≡ (wanted && eqb found 0) → first ≡ true → length cells ≡ n * n
+first_fits : {n : ℕ} {l₀ l : List ℕ} {max found : ℕ} {wanted first : Bool} {cells₀ cells : List ℕ} → Turn n l₀ max wanted cells₀ l found cells →
+    SearchAsk n l₀ wanted (length cells₀) → first ≡ (wanted && eqb found 0) → first ≡ true → length cells ≡ n * n
 first_fits t s f e = t.room ∙ s.fits (and_left _ _ (sym f ∙ e))
-
-pub loop-found-init : goal.loop-found-init
-loop-found-init t c = turn_start _ c.requires
-
-pub returns-in-Contradicted : goal.returns-in-Contradicted
-returns-in-Contradicted t c = turn_none c.loop-found.invariant c.loop-found-test.true c.in-Contradicted.ensures
-
-pub settle-requires : goal.settle-requires
-settle-requires t c =
-    record { ready = c.in-Settled.ensures.ready; fits = first_fits c.loop-found.invariant c.requires c.is_first-first.ensures }
 
 pub returns-in-Settled : goal.returns-in-Settled
 returns-in-Settled t c = turn_one c.loop-found.invariant c.loop-found-test.true c.in-Settled.ensures c.is_first-first.ensures c.settle.ensures
@@ -42,21 +31,6 @@ search-found-requires t c =
     let e = c.copy.ensures in
     let d = c.set_cell.ensures in
     (rw (← c.decreases) (turn_fewer u f h a e d), turn_searchable u f h a e d c.is_first-first.ensures)
-
-pub overflow_add-found : goal.overflow_add-found
-overflow_add-found t c = omega (arith, c.loop-found-test.true, c.search-found.ensures.most, c.ranges.max)
-
-pub cell-requires : goal.cell-requires
-cell-requires t c =
-    let b = c.in-Branch.ensures in
-    let z = b.2.propagable.lagging.ready.size.high in
-    (omega (arith, b.0), omega (arith, b.1))
-
-pub clear_value-requires : goal.clear_value-requires
-clear_value-requires t c =
-    let b = c.in-Branch.ensures in
-    let z = b.2.propagable.lagging.ready in
-    (z.sized, omega (arith, c.cell.ensures, z.size.high, b.0, b.1), omega (arith, b.2.branch.candidate.high))
 
 pub loop-found-smaller : goal.loop-found-smaller
 loop-found-smaller t c =
@@ -83,6 +57,3 @@ loop-found-preserved t c =
     let r = c.search-found.ensures in
     let g = rw c.cell.ensures at c.clear_value.ensures in
     turn_again u f h a e d i r c.search-found.auto.cells g
-
-pub returns : goal.returns
-returns t c = turn_capped c.loop-found.invariant (omega (arith, c.loop-found-test.false))

@@ -5,10 +5,10 @@ use Rattle.backtrack.proofs.SearchLaws.{Turn}
 use Rattle.backtrack.proofs.+search.Given as goal
 
 abbrev pub decreases-search : goal.decreases-search
-decreases-search l = open_cells l.n (table_in l.st.now)
+decreases-search l = open_cells l.arrangements.size.n (table_in l.st.now)
 
 abbrev pub invariant-loop-found : goal.invariant-loop-found
-invariant-loop-found l = Turn l.n l.words l.initial.st l.max l.wanted l.initial.cells l.st l.found l.cells
+invariant-loop-found l = Turn l.arrangements.size.n l.initial.st l.max l.wanted l.initial.cells l.st l.found l.cells
 
 abbrev pub decreases-loop-found : goal.decreases-loop-found
-decreases-loop-found l = total l.n (table_in l.st)
+decreases-loop-found l = total l.arrangements.size.n (table_in l.st)

@@ -4,7 +4,7 @@ use mathlib.Core.Bool.{true≢false}
 use Rattle.backtrack.proofs.settle.Goals as goal
 
 pub write_grid-requires : goal.write_grid-requires
-write_grid-requires c = (c.requires.ready, c.requires.fits c.if-wanted.true)
+write_grid-requires c = c.requires.fits c.if-wanted.true
 
 pub returns-then-wanted : goal.returns-then-wanted
 returns-then-wanted c =

@@ -10,23 +10,15 @@ use Rattle.candidates.proofs.write_table.Goals as goal
 pub prepare-requires : goal.prepare-requires
 prepare-requires c = (search rules, blank_zeros)
 
-pub returns-in_err-prepare : goal.returns-in_err-prepare
-returns-in_err-prepare c =
-    let p = err_from_is_err_and c.from_residual.result c.from_residual.ensures.1 in
-    rw p.1 (c.in_err-prepare.ensures.none refl, refl)
-
-pub propagate-requires : goal.propagate-requires
-propagate-requires c = (c.in_ok-prepare.ensures.marked refl).propagable
-
 pub returns-in_err-propagate : goal.returns-in_err-propagate
 returns-in_err-propagate c =
     let p = err_from_is_err_and c.from_residual-in_err-propagate.result c.from_residual-in_err-propagate.ensures.1 in
-    rw p.1 (left_none (question_solves c.args.q c.requires) (c.in_ok-prepare.ensures.marked refl) c.in_err-propagate.ensures refl, refl)
+    rw p.1 (left_none (question_solves c.args.q c.requires) (c.in_ok-prepare.ensures.state.marked refl) c.in_err-propagate.ensures refl, refl)
 
-pub write_candidates-requires : goal.write_candidates-requires
-write_candidates-requires c = ((c.in_ok-propagate.ensures.lagging refl).ready, c.requires)
+pub invariant_of-view : goal.invariant_of-view
+invariant_of-view c = record { ready = (c.in_ok-propagate.ensures.lagging refl).ready }
 
 pub returns : goal.returns
 returns c =
-    written_table (question_solves c.args.q c.requires) (c.in_ok-prepare.ensures.marked refl)
+    written_table (question_solves c.args.q c.requires) (c.in_ok-prepare.ensures.state.marked refl)
     c.in_ok-propagate.ensures c.write_candidates.ensures (search rules)

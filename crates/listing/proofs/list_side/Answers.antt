@@ -9,15 +9,15 @@ pub loop-s-init : goal.loop-s-init
 loop-s-init c = sum_start _ _ _ c.from_sum-s.ensures c.requires.0
 
 pub offset_bounds-s : goal.offset_bounds-s
-offset_bounds-s c = omega (arith, sum_low _ _ _ _ c.loop-s.invariant c.from_sum-s-end.ensures c.loop-s-test.true c.requires.1)
+offset_bounds-s c = omega (arith, sum_low c.args.arranged.fits _ _ _ _ c.loop-s.invariant c.from_sum-s-end.ensures c.loop-s-test.true c.requires.1)
 
 pub bounds-s : goal.bounds-s
-bounds-s c = sum_low _ _ _ _ c.loop-s.invariant c.from_sum-s-end.ensures c.loop-s-test.true c.requires.1
+bounds-s c = sum_low c.args.arranged.fits _ _ _ _ c.loop-s.invariant c.from_sum-s-end.ensures c.loop-s-test.true c.requires.1
 
 pub list_starts-requires : goal.list_starts-requires
 unfolding subset subset_table
 list_starts-requires c =
-    sum_ask _ _ _ _ c.loop-s.invariant c.from_sum-s-end.ensures c.loop-s-test.true c.requires.1 c.if-s-top.true
+    sum_ask c.args.arranged.fits _ _ _ _ c.loop-s.invariant c.from_sum-s-end.ensures c.loop-s-test.true c.requires.1 c.if-s-top.true
 
 pub loop-s-preserved : goal.loop-s-preserved
 unfolding subset subset_table
@@ -26,9 +26,9 @@ loop-s-preserved c =
     let e = c.from_sum-s-end.ensures in
     let h = c.loop-s-test.true in
     elim c.if-s-top.branch [
-      | then-s-top w ↦ rw w.st-is (sum_next _ _ _ _ g e h w.if-s-top.true w.list_starts.ensures)
-      | else-s-top w ↦ rw w.st-is (sum_skip _ _ _ _ g e h w.if-s-top.false)
+      | then-s-top w ↦ rw w.st-is (sum_next c.args.arranged.fits _ _ _ _ g e h w.if-s-top.true w.list_starts.ensures)
+      | else-s-top w ↦ rw w.st-is (sum_skip c.args.arranged.fits _ _ _ _ g e h w.if-s-top.false)
     ]
 
 pub returns : goal.returns
-returns c = sum_end _ _ _ _ c.loop-s.invariant c.from_sum-s-end.ensures c.loop-s-test.false
+returns c = sum_end c.args.arranged.fits _ _ _ _ c.loop-s.invariant c.from_sum-s-end.ensures c.loop-s-test.false

@@ -8,6 +8,6 @@ use Rattle.listing.proofs.list_side.Given as goal
 
 abbrev pub invariant-loop-s : goal.invariant-loop-s
 invariant-loop-s l =
-    Adding l.lane l.words l.initial.st l.st
-    (side_from l.lane.len (is_outside l.side) l.s (from_sum (l.want + 1)))
-    (side_of l.lane.len (is_outside l.side) l.want)
+    Adding l.arranged.lane l.initial.st l.st
+    (side_from l.arranged.lane.len (is_outside l.side) l.s (from_sum (l.want + 1)))
+    (side_of l.arranged.lane.len (is_outside l.side) l.want)

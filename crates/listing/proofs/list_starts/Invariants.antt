@@ -11,6 +11,6 @@ abbrev pub invariant-loop-start : goal.invariant-loop-start
 invariant-loop-start l =
     (l.initial.start-iterator.start ≤ l.start-iterator.start)
     × (l.start-iterator.end ≡ l.initial.start-iterator.end)
-    × Adding l.lane l.words l.initial.st l.st
-    (starts_from l.lane.len (is_outside l.fn.side) l.s (size_in l.s) l.start-iterator.start)
-    (starts_from l.lane.len (is_outside l.fn.side) l.s (size_in l.s) 0)
+    × Adding l.arranged.lane l.initial.st l.st
+    (starts_from l.arranged.lane.len (is_outside l.fn.side) l.s (size_in l.s) l.start-iterator.start)
+    (starts_from l.arranged.lane.len (is_outside l.fn.side) l.s (size_in l.s) 0)

@@ -5,8 +5,8 @@ use Rattle.opening.proofs.open.Goals as goal
 
 pub seed_queue-requires : goal.seed_queue-requires
 seed_queue-requires c =
-    seed_ask (listable c.args.p c.requires) c.list_arrangements.ensures
+    seed_ask (listable c.args.p c.requires.0) c.list_arrangements.ensures
 
 pub returns : goal.returns
 returns c =
-    opened (listable c.args.p c.requires) c.list_arrangements.ensures c.seed_queue.ensures
+    opened (listable c.args.p c.requires.0) c.list_arrangements.ensures c.seed_queue.ensures

@@ -4,4 +4,4 @@ use Rattle.pick.proofs.ChoiceLaws.{freedom_choices}
 use Rattle.pick.proofs.freedom.Goals as goal
 
 pub returns : goal.returns
-returns c = freedom_choices _ _ c.requires.place (search rules)
+returns c = freedom_choices _ _ c.requires (search rules)

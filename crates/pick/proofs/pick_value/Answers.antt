@@ -5,4 +5,4 @@ use Rattle.pick.proofs.ValueLaws.{chosen}
 use Rattle.pick.proofs.pick_value.Goals as goal
 
 pub returns : goal.returns
-returns c = chosen c.args.st.now c.args.cell c.requires.0 (search rules) c.requires.1 c.max_by_key.result (one_of _ _ _ c.max_by_key.ensures.runs)
+returns c = chosen c.args.view.st.now c.args.cell c.requires.0 (search rules) c.requires.1 c.max_by_key.result (one_of _ _ _ c.max_by_key.ensures.runs)

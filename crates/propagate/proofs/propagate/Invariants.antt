@@ -5,7 +5,7 @@ use Rattle.propagate.proofs.Loop.{Propagating}
 use Rattle.propagate.proofs.propagate.Given as goal
 
 abbrev pub invariant-loop-head : goal.invariant-loop-head
-invariant-loop-head l = Propagating l.n l.words l.initial.st l.st l.head
+invariant-loop-head l = Propagating l.arrangements.size.n l.initial.st l.st l.head
 
 abbrev pub decreases-loop-head : goal.decreases-loop-head
 decreases-loop-head l = queue_room - l.head

@@ -9,6 +9,6 @@ use Rattle.written.proofs.write_candidates.Goals as goal
 pub returns : goal.returns
 unfolding published
 returns c =
-    published_whole c.requires.0 (λ i. (c.type_inv.st i).fits)
-    (rows_are c.args.n (mask_at c.args.n c.args.st.now) _ (c.write_rows.auto.table ∙ c.requires.1)
+    published_whole c.args.view.ready (λ row column h k. let e = c.write_rows.ensures row column 0 h k in search rules)
+    (rows_are c.args.view.n (mask_at c.args.view.n c.args.view.st.now) _ (c.write_rows.auto.table ∙ c.requires)
     (λ row column h k. let e = c.write_rows.ensures row column 0 h k in search rules))

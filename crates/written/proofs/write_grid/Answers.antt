@@ -9,5 +9,5 @@ use Rattle.written.proofs.write_grid.Goals as goal
 pub returns : goal.returns
 unfolding read_off
 returns c =
-    rows_are c.args.n (cell_byte c.args.n c.args.st.now) _ (c.write_rows.auto.table ∙ c.requires.1)
+    rows_are c.args.view.n (cell_byte c.args.view.n c.args.view.st.now) _ (c.write_rows.auto.table ∙ c.requires)
     (λ row column h k. let e = c.write_rows.ensures row column 0 h k in search rules)

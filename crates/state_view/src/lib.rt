@@ -1,0 +1,13 @@
+// The solver's state where it is only read. What changes it asks in its contract what it needs (crates/queue_state); between changes a type can say it.
+#![tactic(auto)]
+
+ghost use Rattle.queue_state.specs.Ready.{Ready};
+ghost use Rattle.state_view.specs.OneProof.{ready_prop};
+
+// A state that is read, with its size: whoever has one need not ask that it is the state of that size.
+#[derive(Clone, Copy)]
+pub struct StateView<'a> {
+    pub st: &'a [u16],
+    pub n: usize,
+    pub ghost ready: { Ready n st.now } by { ready_prop n st.now },
+}
