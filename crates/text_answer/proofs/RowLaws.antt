@@ -11,6 +11,7 @@ use Rattle.tally.proofs.TallyLaws.{and_left, and_right, all_append, span_length}
 use Rattle.rules.specs.Grid.{cell, row}
 use Rattle.rules.proofs.StridedLaws.{map_next}
 use Rattle.text_rules.specs.Text.{cell_text, joined, grid_text}
+use Rattle.text_answer.specs.declared.Grid.{Grid}
 use Rattle.text_answer.specs.Shown.{Shown, shown, led, RowAsk, GridAsk}
 
 -- ---- cells that have a text
@@ -88,21 +89,26 @@ pub rows_end : {n : ℕ} {g out l : List ℕ} → RowsPut n g out l n → l ≡ 
 unfolding grid_text
 rows_end w = w.put
 
-module _ {n : ℕ} {g : List ℕ} {room : ℕ} (a : GridAsk n g room) {r : ℕ} (h : r < n) where
-  pub row_within : (r * n + n ≤ length g) × (length g ≤ 81)
-  row_within = omega (arith, a.square, mul-le-mul_right n h, mul-le-mul a.size a.size)
+pub row_within : (grid : Grid) {r : ℕ} → r < grid.n → (r * grid.n + grid.n ≤ length grid.cells.now) × (length grid.cells.now ≤ 81)
+row_within grid h = omega (arith, grid.square, mul-le-mul_right grid.n h, mul-le-mul grid.few grid.few)
 
-module _ {n : ℕ} {g out l : List ℕ} {r room : ℕ} (a : GridAsk n g room) (w : RowsPut n g out l r) (h : r < n) where
+module _ (grid : Grid) {out l : List ℕ} {r room : ℕ} (a : GridAsk grid.cells.now room) (w : RowsPut grid.n grid.cells.now out l r) (h : r < grid.n) where
+  abbrev n : ℕ
+  n = grid.n
+
+  abbrev g : List ℕ
+  g = grid.cells.now
+
   abbrev cells : List ℕ
   cells = take (r * n + n - r * n) (drop (r * n) g)
 
   cells_long : length cells ≡ n
   cells_long =
-      length-take (r * n + n - r * n) (drop (r * n) g) ∙ omega (arith, length-drop (r * n) g, row_within a h)
+      length-take (r * n + n - r * n) (drop (r * n) g) ∙ omega (arith, length-drop (r * n) g, row_within grid h)
 
   row_is : row n g r ≡ cells
   unfolding row cell
-  row_is = let e : n ≡ r * n + n - r * n = omega arith in row_part g (r * n) n (row_within a h).0 ∙ ap (λ k. take k (drop (r * n) g)) e
+  row_is = let e : n ≡ r * n + n - r * n = omega arith in row_part g (r * n) n (row_within grid h).0 ∙ ap (λ k. take k (drop (r * n) g)) e
 
   pub row_ask : (capacity : ℕ) → room ≡ capacity - length out → RowAsk cells (capacity - length l)
   row_ask capacity e =
@@ -110,7 +116,7 @@ module _ {n : ℕ} {g out l : List ℕ} {r room : ℕ} (a : GridAsk n g room) (w
         cells = all_part shown (r * n + n - r * n) (r * n) g a.cells;
         fits =
             let both = length-append out (joined (map (row_text n g) (span 0 r))) in
-            omega (arith, cells_long, ap length w.put, both, joined_short n g r a.size, a.size, a.fits);
+            omega (arith, cells_long, ap length w.put, both, joined_short n g r grid.few, grid.few, a.fits);
       }
 
   pub rows_next : {l' : List ℕ} → l' ≡ l ++ led r (map cell_text cells) → RowsPut n g out l' (r + 1)

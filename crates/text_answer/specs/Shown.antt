@@ -1,5 +1,5 @@
 -- What has a text, and what can be written where there is room. Assumes nothing.
-use Rattle.std.specs.Prelude.{ℕ, ◌+◌, ◌*◌, ◌≤◌, ◌<◌, ◌≡◌, Bool, true, ◌||◌, cond, List, ◌∷◌, eqb, leb, length}
+use Rattle.std.specs.Prelude.{ℕ, ◌+◌, ◌≤◌, ◌<◌, ◌≡◌, Bool, true, ◌||◌, cond, List, ◌∷◌, eqb, leb, length}
 use Rattle.tally.specs.Tally.{all}
 use Rattle.rules.specs.Grid.{is_black}
 
@@ -25,16 +25,12 @@ pub record RowAsk (row : List ℕ) (room : ℕ) : Type 0 where
   pub cells : all shown row ≡ true
   pub fits : length row < room
 
--- A grid that has a text, and room for it.
-pub record GridAsk (n : ℕ) (g : List ℕ) (room : ℕ) : Type 0 where
-  pub size : n ≤ 9
-  pub square : length g ≡ n * n
+-- The cells of a grid that has a text, and room for it.
+pub record GridAsk (g : List ℕ) (room : ℕ) : Type 0 where
   pub cells : all shown g ≡ true
   pub fits : 90 ≤ room
 
 -- The same behind a verdict, given by its length.
-pub record SolvedAsk (verdict n : ℕ) (g : List ℕ) (room : ℕ) : Type 0 where
-  pub size : n ≤ 9
-  pub square : length g ≡ n * n
+pub record SolvedAsk (verdict : ℕ) (g : List ℕ) (room : ℕ) : Type 0 where
   pub cells : all shown g ≡ true
   pub fits : verdict + 90 ≤ room

@@ -2,7 +2,7 @@
 // succeeds, and never that it does.
 #![tactic(auto)]
 
-ghost use Rattle.std.specs.Prelude.{◌≡◌, ◌+◌, ◌-◌, ◌≤◌, ◌++◌, map, length};
+ghost use Rattle.std.specs.Prelude.{◌≡◌, ◌+◌, ◌-◌, ◌*◌, ◌≤◌, ◌++◌, map, length};
 ghost use Rattle.arrayvec.specs.ArrayVec.{array_vec_len};
 ghost use Rattle.text_rules.specs.Text.{refused_word, number_text, cell_text, grid_text};
 ghost use Rattle.text_answer.specs.Shown.{Shown, led, CellsAsk, RowAsk, GridAsk, SolvedAsk};
@@ -73,28 +73,32 @@ fn write_row<const N: usize>(r: usize, row: &[u8], out: &mut ArrayVec<u8, N>)
     write_cells(row, out);
 }
 
+// The cells of a grid, row by row.
+#[derive(Clone, Copy)]
+pub struct Grid<'a> {
+    pub n: usize,
+    pub cells: &'a [u8],
+    pub ghost few: { n ≤ 9 },
+    pub ghost square: { length cells.now ≡ n * n },
+}
+
 // The rows of a grid.
-fn write_grid<const N: usize>(n: usize, cells: &[u8], out: &mut ArrayVec<u8, N>)
-    requires { GridAsk n cells.now (N - array_vec_len out.old) }
-    ensures { out.new.items ≡ out.old.items ++ grid_text n cells.now }
+fn write_grid<const N: usize>(grid: Grid, out: &mut ArrayVec<u8, N>)
+    requires { GridAsk grid.cells.now (N - array_vec_len out.old) }
+    ensures { out.new.items ≡ out.old.items ++ grid_text grid.entry.n grid.entry.cells.now }
 {
     // By number: `chunks(n)` asks that n is not 0.
-    for r in 0..n {
-        let start = r * n;
-        write_row(r, &cells[start..start + n], out);
+    for r in 0..grid.n {
+        let start = r * grid.n;
+        write_row(r, &grid.cells[start..start + grid.n], out);
     }
 }
 
 // A verdict with its grid.
-pub fn write_solved<const N: usize>(
-    verdict: &[u8],
-    n: usize,
-    cells: &[u8],
-    out: &mut ArrayVec<u8, N>,
-)
-    requires { SolvedAsk (length verdict.now) n cells.now (N - array_vec_len out.old) }
-    ensures { out.new.items ≡ out.old.items ++ (verdict.now ++ grid_text n cells.now) }
+pub fn write_solved<const N: usize>(verdict: &[u8], grid: Grid, out: &mut ArrayVec<u8, N>)
+    requires { SolvedAsk (length verdict.now) grid.cells.now (N - array_vec_len out.old) }
+    ensures { out.new.items ≡ out.old.items ++ (verdict.now ++ grid_text grid.entry.n grid.entry.cells.now) }
 {
     write_text(verdict, out);
-    write_grid(n, cells, out);
+    write_grid(grid, out);
 }

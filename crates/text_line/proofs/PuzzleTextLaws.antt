@@ -30,9 +30,9 @@ use Rattle.text_line.specs.Line.{solved_text, shows_grid, AnswerAsk, SolveTarget
 
 -- ---- the text of an answer
 
-pub answer_ask : {a b : Result Verdict Refusal} {n : ℕ} {g : List ℕ} {room : ℕ} → AnswerAsk a n g room → a ≡ b → shows_grid b ≡ true → (k : ℕ) → k ≤ 9 → SolvedAsk k n g room
+pub answer_ask : {a b : Result Verdict Refusal} {g : List ℕ} {room : ℕ} → AnswerAsk a g room → a ≡ b → shows_grid b ≡ true → (k : ℕ) → k ≤ 9 → SolvedAsk k g room
 answer_ask w e s k h =
-    record { size = w.size; square = w.square; cells = w.cells (ap shows_grid e ∙ s); fits = omega (arith, w.fits) }
+    record { cells = w.cells (ap shows_grid e ∙ s); fits = omega (arith, w.fits) }
 
 pub answer_put : {a b : Result Verdict Refusal} {l : List ℕ} (out : List ℕ) (n : ℕ) (g : List ℕ) → a ≡ b → l ≡ out ++ solved_text b n g → l ≡ out ++ solved_text a n g
 answer_put out n g e w = rw e w
@@ -95,11 +95,9 @@ module _ {n : ℕ} {ts : List ℕ} {room : ℕ} {answer : Result Verdict Refusal
   unfolding marks_of refusal
   solution e h = s.1.written (ap number_of accepted ∙ e) h
 
-  pub solve_shown : Size n → AnswerAsk answer n cells' room
+  pub solve_shown : Size n → AnswerAsk answer cells' room
   solve_shown z =
       record {
-        size = z.high;
-        square = long ∙ a.square;
         cells = λ e. let q = shows (checked (puzzle_checks hall p)) (number p []) (sym (ap shows_grid is) ∙ e) in way_shown n z.high (solution_way (solution (passed_number _ q.0) q.1));
         fits = a.fits;
       }

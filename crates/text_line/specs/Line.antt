@@ -42,9 +42,7 @@ shows_grid (Ok Multiple) = true
 shows_grid (Err k) = false
 
 -- An answer, whose grid has a text if it shows one, and room for it.
-pub record AnswerAsk (answer : Result Verdict Refusal) (n : ℕ) (g : List ℕ) (room : ℕ) : Type 0 where
-  pub size : n ≤ 9
-  pub square : length g ≡ n * n
+pub record AnswerAsk (answer : Result Verdict Refusal) (g : List ℕ) (room : ℕ) : Type 0 where
   pub cells : shows_grid answer ≡ true → all shown g ≡ true
   pub fits : 99 ≤ room
 

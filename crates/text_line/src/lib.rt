@@ -12,24 +12,23 @@ use arrayvec::{ArrayVec, CapacityError};
 use engine::{Verdict, solve};
 use grid_size::GridSize;
 use refusal::Refusal;
-use text_answer::{write_refused, write_solved, write_text};
+use text_answer::{Grid, write_refused, write_solved, write_text};
 use text_numbers::read_numbers;
 use units::Unit;
 
 // The text of an answer of Solve.
 fn write_answer<const N: usize>(
     answer: Result<Verdict, Refusal>,
-    n: usize,
-    cells: &[u8],
+    grid: Grid,
     out: &mut ArrayVec<u8, N>,
 )
-    requires { AnswerAsk answer n cells.now (N - array_vec_len out.old) }
-    ensures { out.new.items ≡ out.old.items ++ solved_text answer n cells.now }
+    requires { AnswerAsk answer grid.cells.now (N - array_vec_len out.old) }
+    ensures { out.new.items ≡ out.old.items ++ solved_text answer grid.entry.n grid.entry.cells.now }
 {
     match answer {
         Ok(Verdict::Unsolvable) => write_text(b"unsolvable", out),
-        Ok(Verdict::Unique) => write_solved(b"unique ", n, cells, out),
-        Ok(Verdict::Multiple) => write_solved(b"multiple ", n, cells, out),
+        Ok(Verdict::Unique) => write_solved(b"unique ", grid, out),
+        Ok(Verdict::Multiple) => write_solved(b"multiple ", grid, out),
         Err(refusal) => write_refused(refusal.number(), out),
     }
 }
@@ -46,7 +45,7 @@ fn solve_targets<const N: usize>(
 {
     let n = size.n;
     let answer = solve(Unit::hall(), n, &targets[..n], &targets[n..], &[], cells);
-    write_answer(answer, n, cells, out);
+    write_answer(answer, Grid { n, cells }, out);
 }
 
 // The answer to a puzzle with its row targets in front of its column targets.

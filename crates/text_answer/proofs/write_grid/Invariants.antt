@@ -3,4 +3,4 @@ use Rattle.text_answer.proofs.RowLaws.{RowsPut}
 use Rattle.text_answer.proofs.write_grid.Given as goal
 
 abbrev pub invariant-loop-r : goal.invariant-loop-r
-invariant-loop-r g l = RowsPut l.n l.cells l.initial.out.items l.out.items l.r
+invariant-loop-r g l = RowsPut l.grid.n l.grid.cells.now l.initial.out.items l.out.items l.r
