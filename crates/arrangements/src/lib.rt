@@ -18,7 +18,7 @@ pub struct Arrangements<'a> {
 }
 
 impl<'a> Arrangements<'a> {
-    // A row of a grid of that size, and a column.
+    // A row of a grid of that size, and a column: each a function of its own, as those of `Lane`.
     pub fn row(self, r: usize) -> ArrangedLane<'a>
         requires { r < self.size.n }
         ensures { RowLane self.entry.size.n r result.lane }

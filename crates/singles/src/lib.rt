@@ -30,7 +30,8 @@ fn update_half(st: &mut [u16], lane: Lane, x: Candidate, counters: usize, mask: 
     }
 }
 
-// A strike of x: the counters of both halves of its cell.
+// A strike of x: the counters of both halves of its cell. The size goes beside the candidate, here, below and in set_cell: one that had a size of its own would
+// say the state's a second time, and each contract would ask that they agree.
 pub fn update_singleton(st: &mut [u16], n: usize, x: Candidate)
     requires { SingletonAsk n st.old x.row x.column x.value }
     ensures { SingletonDone n st.old st.new x.row x.column x.value }

@@ -1,5 +1,6 @@
 // The solver's table and grid, written for the caller row by row: n * n masks of candidates, and n * n cells (in the Rust: solved_cells).
 // Called once for each call of the library, for at most 81 entries: its time does not matter.
+// What is written comes beside the size: of a struct that holds a `&mut` each contract would have to say as well that it is still the caller's.
 #![tactic(auto)]
 
 ghost use Rattle.std.specs.Prelude.{◌≡◌, ℕ, ◌+◌, ◌*◌, ◌<◌, length, get_or, slice_index_or};
