@@ -138,7 +138,7 @@ fn having_since(st: &[u16], arranged: ArrangedLane, v: usize, t: u16, have: u32)
 }
 
 // The sweep for a digit that is struck at place p: the dead arrangements of the line leave. Gives how many are left. The line, the place and the value go one
-// by one here and below: as one value they take 0.4 % more instructions, and Count to 5,000 more than before the words had a type (tried).
+// by one here and below: as one value they take 0.4 % more instructions (tried), and nothing is to get slower.
 // Not one with sweep_black: this test goes on with `have` as removals strike, and a trait or a closure for the two tests is longer than the loop twice.
 fn sweep_digit(st: &mut [u16], arranged: ArrangedLane, p: usize, v: usize) -> usize
     requires { SweepAsk arranged.lane p v st.old × (v < 8) }

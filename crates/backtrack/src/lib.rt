@@ -48,8 +48,8 @@ fn is_first(wanted: bool, found: u64) -> bool
     wanted && found == 0
 }
 
-// The grid of a settled table is written if it is wanted. The view is made here: made in `search`, which calls itself, it costs up to half as much again
-// (tried).
+// The grid of a settled table is written if it is wanted. The view is made here: made in `search`, which calls itself, it costs Count up to half as many
+// instructions again (tried).
 fn settle(st: &[u16], n: usize, wanted: bool, cells: &mut [u8])
     requires { SettleAsk n st.now wanted (length cells.old) }
     ensures { SettledAs n st.now wanted cells.old cells.new }

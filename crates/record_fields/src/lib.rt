@@ -101,7 +101,7 @@ pub fn field_start(list: &[u8], k: usize) -> usize
     at
 }
 
-// Field k.
+// Field k. Fields go by their number here and below, which this reckons with: an enum of the eight would be a number again at each use.
 pub fn field(list: &[u8], k: usize) -> &[u8]
     requires { k < 8 }
     ensures { result.now ≡ field_of list.now k }

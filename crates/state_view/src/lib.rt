@@ -1,4 +1,5 @@
-// The solver's state where it is only read. What changes it asks in its contract what it needs (crates/queue_state); between changes a type can say it.
+// The solver's state where it is only read. What changes it asks in its contract what it needs (crates/queue_state); between changes a type can say it. What
+// reads it in the midst of a change (a place of it in arcs, opening and singles) asks for the slice's length alone.
 #![tactic(auto)]
 
 ghost use Rattle.queue_state.specs.Ready.{Ready};

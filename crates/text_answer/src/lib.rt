@@ -1,5 +1,5 @@
 // The text of an answer of `sheet`, appended to what a buffer holds. Nothing is written by `write!`: `fmt::Write` promises the bytes only where it
-// succeeds, and never that it does.
+// succeeds, and never that it does. How much room is left stands in contracts and not in a type: it is less after each push.
 #![tactic(auto)]
 
 ghost use Rattle.std.specs.Prelude.{◌≡◌, ◌+◌, ◌-◌, ◌*◌, ◌≤◌, ◌++◌, map, length};
@@ -73,7 +73,7 @@ fn write_row<const N: usize>(r: usize, row: &[u8], out: &mut ArrayVec<u8, N>)
     write_cells(row, out);
 }
 
-// The cells of a grid, row by row.
+// The cells of a grid, row by row: as many as its size says, which is at most 9.
 #[derive(Clone, Copy)]
 pub struct Grid<'a> {
     pub n: usize,
