@@ -23,7 +23,7 @@ fn freedom(view: StateView, cell: usize) -> u32
     requires { cell < 81 }
     ensures { result ≡ row_choices view.entry.st.now cell }
 {
-    (view.st[cell] & Value::ROW_HALF).count_ones()
+    (view.candidates(cell) & Value::ROW_HALF).count_ones()
 }
 
 // Goes on through row r, up to a cell with two candidates: one with a choice at all, then the fewest candidates, then the first.
@@ -63,7 +63,7 @@ fn pick_value(view: StateView, cell: usize) -> Option<usize>
     requires { (cell < 81) × (0 < row_choices view.st.now cell) }
     ensures { IsSomeAnd result (RowCandidate view.entry.st.now cell) }
 {
-    let rest = view.st[cell] & Value::ROW_HALF;
+    let rest = view.candidates(cell) & Value::ROW_HALF;
     let support = Slab::SUPPORT + cell * 16;
     Bits { rest }.max_by_key(|&v| Reverse(view.st[support + v]))
 }

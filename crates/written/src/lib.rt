@@ -19,7 +19,7 @@ fn read_mask(view: StateView, r: usize, c: usize) -> u16
     ensures is { result ≡ mask_at view.entry.n view.entry.st.now r c }
     ensures small { get_or view.entry.st.now (r * 9 + c) 0 < 65536 }
 {
-    let m = view.st[r * 9 + c];
+    let m = view.candidates(r * 9 + c);
     m % 256 + (m / 256 << (view.n - 1))
 }
 
@@ -29,7 +29,7 @@ fn read_cell(view: StateView, r: usize, c: usize) -> u8
     requires { (r < view.n) × (c < view.n) }
     ensures { result ≡ cell_byte view.entry.n view.entry.st.now r c }
 {
-    let digits = view.st[r * 9 + c] & Value::DIGITS;
+    let digits = view.candidates(r * 9 + c) & Value::DIGITS;
     if digits == 0 {
         Value::BLACK
     } else {
