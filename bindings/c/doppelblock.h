@@ -181,8 +181,9 @@ uint8_t doppelblock_solve(size_t size,
  *
  * Returns DOPPELBLOCK_DONE, DOPPELBLOCK_CONTRADICTED or a refusal, checked in
  * this order: 1, 18, 2, 3, 19 (18 and 19 never due in the hall), then 4, 5, 6
- * mark by mark, then 7. Only DONE writes, and then each cell has a candidate. A
- * table can be written although no grid is left.
+ * mark by mark, then 7. Only DONE writes, and then each cell has a candidate.
+ * Where a grid is left, the table is written and the rules determine it. One can
+ * be written although no grid is left.
  */
 uint8_t doppelblock_candidates(size_t size,
                                const uint8_t *rows, size_t rows_len,

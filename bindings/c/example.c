@@ -1,5 +1,5 @@
-/* Target sums, marking, counting, solving and a classroom's limits from C. It
-   prints the same lines as the Rust example and exits with 1 if the engine
+/* Target sums, marking, counting, solving, candidates and a classroom's limits
+   from C. It prints the same lines as the Rust example and exits with 1 if the engine
    answers anything unexpected. */
 #include "doppelblock.h"
 
@@ -96,6 +96,26 @@ static void counting_and_solving(void)
     print_grid(cells);
 }
 
+/* What one cell can still be. Digit 1 cannot stand there: where column 3 would have
+   1 and 2 between its blacks, no cell between them is left for the 2. */
+static void what_remains(void)
+{
+    const uint8_t rows[5] = {2, 0, 4, 4, 0}, columns[5] = {3, 1, 6, 3, 0};
+    uint8_t table[2 * 5 * 5];
+
+    /* Without marks, any address will do. */
+    uint8_t answer = doppelblock_candidates(5, rows, 5, columns, 5, rows, 0, table,
+                                            sizeof table);
+    expect("candidates", answer, DOPPELBLOCK_DONE);
+    const uint8_t *entry = &table[2 * (2 * 5 + 3)];
+    unsigned candidates = entry[0] << 8 | entry[1];
+    printf("rows 2 0 4 4 0, columns 3 1 6 3 0: row 2, column 3 can be");
+    for (unsigned digit = 1; digit <= 3; digit++)
+        if (candidates >> digit & 1)
+            printf(" %u", digit);
+    puts(candidates >> 4 ? " or black" : "");
+}
+
 /* A classroom takes smaller sizes than the hall, and shorter lists of marks. */
 static void a_classroom(void)
 {
@@ -121,6 +141,7 @@ int main(void)
     sums_and_marking();
     a_repeated_digit();
     counting_and_solving();
+    what_remains();
     a_classroom();
     return 0;
 }

@@ -1,14 +1,16 @@
-//! Target sums, marking, counting, solving and a classroom's limits from Rust. It
-//! prints the same lines as the C example.
+//! Target sums, marking, counting, solving, candidates and a classroom's limits from
+//! Rust. It prints the same lines as the C example.
 
 use doppelblock::{
-    BLACK as B, EMPTY, Mark, Refusal, Sheet, Unit, Verdict, count, mark_sheet, solve, target_sums,
+    BLACK as B, Candidates, EMPTY, Mark, Refusal, Sheet, Unit, Verdict, candidates, count,
+    mark_sheet, solve, target_sums,
 };
 
 pub fn main() -> Result<(), Refusal> {
     sums_and_marking()?;
     a_repeated_digit()?;
     counting_and_solving()?;
+    what_remains()?;
     a_classroom();
     Ok(())
 }
@@ -52,6 +54,29 @@ fn counting_and_solving() -> Result<(), Refusal> {
     let verdict = solve(3, &rows, &columns, &marks, &mut cells)?;
     assert_eq!(verdict, Verdict::Unique);
     println!("one without a 1 in its first cell: {}", drawn(&cells));
+    Ok(())
+}
+
+/// What one cell can still be. Digit 1 cannot stand there: where column 3 would have
+/// 1 and 2 between its blacks, no cell between them is left for the 2.
+fn what_remains() -> Result<(), Refusal> {
+    let (rows, columns) = ([2, 0, 4, 4, 0], [3, 1, 6, 3, 0]);
+    let mut table = [0; 2 * 5 * 5];
+    let answer = candidates(5, &rows, &columns, &[], &mut table)?;
+    assert_eq!(answer, Candidates::Written);
+    let entry = 2 * (2 * 5 + 3);
+    let left = u16::from_be_bytes([table[entry], table[entry + 1]]);
+    let digits: Vec<String> = (1..=3)
+        .filter(|digit| left >> digit & 1 == 1)
+        .map(|digit| digit.to_string())
+        .collect();
+    println!(
+        "rows {}, columns {}: row 2, column 3 can be {}{}",
+        listed(&rows),
+        listed(&columns),
+        digits.join(" "),
+        if left >> 4 == 0 { "" } else { " or black" }
+    );
     Ok(())
 }
 

@@ -144,7 +144,8 @@ impl Unit {
     /// propagation: two bytes for each cell, row by row, the more significant
     /// first. Digit d is bit d of these 16; the left, right, upper and lower black
     /// are the bits size - 1 to size + 2. In a written table each cell has a
-    /// candidate.
+    /// candidate. Where a grid is left, the table is written and the rules determine
+    /// it; one can be written although no grid is left.
     ///
     /// # Errors
     ///

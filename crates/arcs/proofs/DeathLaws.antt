@@ -12,20 +12,21 @@ use Rattle.bits.specs.Bit.{bit}
 use Rattle.bits.proofs.BitLaws.{bit_lt}
 use Rattle.rules.specs.Size.{Size}
 use Rattle.table.specs.Closed.{place, allows}
-use Rattle.queue_state.specs.Slab.{cand, Grown}
+use Rattle.queue_state.specs.Slab.{cand, tail, Grown}
 use Rattle.queue_state.proofs.SlabLaws.{cand_in}
+use Rattle.queue_state.proofs.ReadyLaws.{grown_same}
 use Rattle.lane.specs.declared.Lane.{Lane}
-use Rattle.words.specs.Word.{mask_in, size_in, Known, arrangement_of, word_of, set_of, inner_of, covered_of, from_of, to_of, steps, pattern, part}
+use Rattle.words.specs.Word.{mask_in, size_in, Known, arrangement_of, word_of, set_of, inner_of, from_of, to_of, steps, pattern, part}
 use Rattle.words.proofs.WordFacts.{mask_even}
 use Rattle.words.proofs.PatternLaws.{part_yes, part_pattern, part_digit, pattern_beyond, black_alone}
 use Rattle.words.proofs.WordLaws.{known_subset, known_fits, known_fields, known_steps, known_shaped}
-use Rattle.words.proofs.Arranged.{digits_mem, known_length, place_in, steps_place, pattern_allows, covered_place}
+use Rattle.words.proofs.Arranged.{digits_mem, known_length, place_in, steps_place, pattern_allows, inner_place}
 use Rattle.arcs.specs.Arc.{DeadArrangement, emptied, unplaced}
 use Rattle.table.specs.Lines.{cell_at, black_at}
 use Rattle.lane.proofs.LaneLaws.{cell_in}
 use Rattle.arcs.proofs.KillLaws.{black_low, set_high}
 use Rattle.arcs.proofs.LineLaws.{line_absent}
-use Rattle.arcs.specs.Sweep.{Outlives, untouched, served}
+use Rattle.arcs.specs.Sweep.{Outlives, untouched, backed}
 use Rattle.arcs.proofs.TestLaws.{test_taken, test_left, apart, meeting}
 use Rattle.arcs.specs.Have.{test_of, Have, Tested}
 
@@ -36,11 +37,11 @@ module _ (lane : Lane) where
   lane_cand l q v h =
       ap (λ x. bit v (get_or l x 0)) (lane.cells q h) ∙ sym (cand_in l (cell_at lane.number q) v (cell_in lane.number q lane.within h))
 
-  -- the table only shrinks
-  pub have_kept : (v n have : ℕ) {l l' : List ℕ} → v < 16 → n ≤ 9 → Grown l l' → Have lane v l n have → Have lane v l' n have
+  -- as long as nothing is struck
+  pub have_kept : (v n have : ℕ) {l l' : List ℕ} → v < 16 → n ≤ 9 → Grown l l' → tail l' ≡ tail l → Have lane v l n have → Have lane v l' n have
   unfolding Have
-  have_kept v n have {l} {l'} h k g f q b =
-      omega (arith, f q b, g.sub (cell_at lane.number q) v h, lane_cand l q v (omega arith), lane_cand l' q v (omega arith))
+  have_kept v n have {l} {l'} h k g e f q b =
+      lane_cand l' q v (omega arith) ∙ grown_same g e (cell_at lane.number q) v h ∙ sym (lane_cand l q v (omega arith)) ∙ f q b
 
 -- ---- a known arrangement
 
@@ -82,22 +83,38 @@ module _ (n ℓ p v id : ℕ) (l : List ℕ) (z : Size n) (y : Known n id) (hp :
     cell : (u : ℕ) → cand l (cell_at ℓ p) u ≡ bit u cands
     cell u = cand_in l (cell_at ℓ p) u (cell_in ℓ p line narrow) ∙ ap (bit u) (sym c)
 
-    pub tested_kept : x < 2 ^ 32 → cands < 2 ^ 16 → r ≡ true → Outlives n ℓ l p v id
-    tested_kept b d o =
+    pub tested_kept : (lane : Lane) → ℓ ≡ lane.number → Have lane v l n have → x < 2 ^ 32 → cands < 2 ^ 16 → r ≡ true → Outlives n ℓ l p v id
+    unfolding Have
+    tested_kept lane a f b d o =
         ⊎_elim
         (λ q. untouched (ap (λ x. part (black_at ℓ) x p v) (sym e) ∙ test_left x v p h narrow (black_at ℓ) b q))
-        (λ q. go (test_taken x v p h narrow q.0).1 (meeting cands (set_of x) d (omega arith) q.1))
+        (λ q. go (test_taken x v p h narrow q.0) (meeting 16 cands (set_of x) d q.2) (meeting 9 (inner_of x) have (omega arith) q.1))
         (t.keeps o)
       where
-        go : bit p (inner_of x) ≡ 1 → (i : ℕ) × (i < 16) × (bit i cands ≡ 1) × (bit i (set_of x) ≡ 1) → Outlives n ℓ l p v id
-        go q m =
-            served m.0 m.1
-            (ap (λ x. part (black_at ℓ) x p m.0) (sym e) ∙ omega (arith, part_digit (black_at ℓ) x p m.0 (low (dec_lt m.0 8)), m.3))
-            (cell m.0 ∙ m.2)
+        -- what the word has at an inner place
+        has : (i u : ℕ) → u < 16 → bit i (inner_of x) ≡ 1 → bit u (set_of x) ≡ 1 → part (black_at ℓ) (word_of n id) i u ≡ 1
+        has i u k b c = ap (λ x. part (black_at ℓ) x i u) (sym e) ∙ omega (arith, part_digit (black_at ℓ) x i u (low (dec_lt u 8)))
           where
-            low : Dec (m.0 < 8) → m.0 < 8
+            low : Dec (u < 8) → u < 8
             low (yes a) = a
-            low (no a) = absurd (omega (arith, set_high x m.0 (omega arith), m.3))
+            low (no a) = absurd (omega (arith, set_high x u (omega arith)))
+
+        go : (bit v (set_of x) ≡ 1) × (bit p (inner_of x) ≡ 1) → (i : ℕ) × (i < 16) × (bit i cands ≡ 1) × (bit i (set_of x) ≡ 1) →
+            (i : ℕ) × (i < 9) × (bit i (inner_of x) ≡ 1) × (bit i have ≡ 1) → Outlives n ℓ l p v id
+        go q m s =
+            backed m.0 s.0 m.1
+            (has p m.0 m.1 q.1 m.3)
+            (cell m.0 ∙ m.2)
+            within
+            (has s.0 v (omega arith) s.2 q.0)
+            (ap (λ ℓ. cand l (cell_at ℓ s.0) v) a ∙ sym (lane_cand lane l s.0 v (omega (arith, within, z.high))) ∙ f s.0 within ∙ s.3)
+          where
+            within : s.0 < n
+            within = near (dec_lt s.0 n)
+              where
+                near : Dec (s.0 < n) → s.0 < n
+                near (yes a) = a
+                near (no a) = absurd (omega (arith, s.2, ap (λ x. bit s.0 (inner_of x)) e, (known_shaped n id z y).past s.0 (omega arith) s.1))
 
     pub tested_dead : (lane : Lane) → ℓ ≡ lane.number → Have lane v l n have → r ≡ false → DeadArrangement n ℓ l id
     unfolding Have arrangement_of
@@ -133,15 +150,15 @@ module _ (n ℓ p v id : ℕ) (l : List ℕ) (z : Size n) (y : Known n id) (hp :
                 absurd (omega arith)
 
         -- the digit has no place
-        nowhere : bit_and (covered_of x) have ≡ 0 → DeadArrangement n ℓ l id
+        nowhere : bit_and (inner_of x) have ≡ 0 → DeadArrangement n ℓ l id
         nowhere q =
             unplaced v (digits_mem (mask_in (id / 9)) v (mask_even (id / 9) (known_subset n id z y)) h
             (ap (bit v) (sym (known_fields n id z y).set_is ∙ ap set_of (sym e)) ∙ has.0))
-            (λ j b. line_absent l ℓ _ v (none j (omega (arith, known_length n id z y))))
+            (λ j b c. line_absent l ℓ _ v (none j b (omega (arith, known_length n id z y))))
           where
-            none : (j : ℕ) → j < size_in (id / 9) + 2 → cand l (cell_at ℓ (place n (arrangement_of n id) j)) v ≡ 0
-            none j b =
+            none : (j : ℕ) → 0 < j → j < size_in (id / 9) + 1 → cand l (cell_at ℓ (place n (arrangement_of n id) j)) v ≡ 0
+            none j b c =
                 let s = place n (arrangement_of n id) j in
                 let i : s < n = place_in n id z y j (omega (arith, known_fits n id z y)) in
-                let k : bit s (covered_of x) ≡ 1 = ap (λ x. bit s (covered_of x)) e ∙ covered_place n id z y j b in
-                omega (arith, apart (covered_of x) have q s k, f s i, lane_cand lane l s v (omega (arith, z.high)), ap (λ m. cand l (cell_at m s) v) a)
+                let k : bit s (inner_of x) ≡ 1 = ap (λ x. bit s (inner_of x)) e ∙ inner_place n id z y j b c in
+                omega (arith, apart (inner_of x) have q s k, f s i, lane_cand lane l s v (omega (arith, z.high)), ap (λ m. cand l (cell_at m s) v) a)

@@ -1,5 +1,5 @@
 -- What the proofs of several functions use.
-mod AliveLaws
+pub mod AliveLaws
 mod ArcLaws
 mod DeathLaws
 mod DigitLaws

@@ -69,7 +69,7 @@ unfolding arrangement_of
 dead_kept {l} {l'} {n} {ℓ} {id} g (emptied j h e) =
     emptied j h (λ v t. line_absent l' ℓ _ v (grown_gone g _ v (allows_narrow n (black_at ℓ) id j v (black_high ℓ) t) (absent_line l ℓ _ v (e v t))))
 dead_kept {l} {l'} {n} {ℓ} {id} g (unplaced d m e) =
-    unplaced d m (λ j h. line_absent l' ℓ _ d (grown_gone g _ d (let i = digits_narrow _ d m in omega arith) (absent_line l ℓ _ d (e j h))))
+    unplaced d m (λ j b h. line_absent l' ℓ _ d (grown_gone g _ d (let i = digits_narrow _ d m in omega arith) (absent_line l ℓ _ d (e j b h))))
 
 pub unsupported_kept : {n : ℕ} {l l' : List ℕ} {x v : ℕ} → Size n → v < 16 → ((y u : ℕ) → y < 162 → u < 16 → support l' y u ≤ support l y u) →
     Unsupported n l x v → Unsupported n l' x v

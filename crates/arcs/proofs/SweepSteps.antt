@@ -9,6 +9,7 @@ use lib.ListN.{length, get_or}
 use Rattle.bits.specs.Sum.{same}
 use Rattle.bits.proofs.SumLaws.{same_yes, same_no}
 use Rattle.queue_state.specs.Layout.{slab_size}
+use Rattle.queue_state.specs.Slab.{tail}
 use Rattle.queue_state.proofs.StruckLaws.{grown_gone}
 use Rattle.lane.specs.declared.Lane.{Lane}
 use Rattle.lane.proofs.LaneLaws.{lane_in}
@@ -74,11 +75,11 @@ module _ (arranged : ArrangedLane) {p v : ℕ} {l₀ : List ℕ} (a : SweepAsk a
       at_cell : get_or l cell 0 ≡ get_or l (cell_at ℓ p) 0
       at_cell = ap (λ c. get_or l c 0) (g ∙ sweep_cell)
 
-      pub digit_keep : w < 2 ^ 32 → get_or l cell 0 < 2 ^ 16 → o ≡ true → Sweeping n ℓ p v l₀ l (i + 1) len
-      digit_keep c d q =
+      pub digit_keep : Have lane v l n have → w < 2 ^ 32 → get_or l cell 0 < 2 ^ 16 → o ≡ true → Sweeping n ℓ p v l₀ l (i + 1) len
+      digit_keep k c d q =
           sweep_keep arranged a s b
           (tested_kept n ℓ p v (live l ℓ i) l a.ready.size (sweep_known arranged a s b) a.place h (sweep_line arranged a) w have (get_or l cell 0) o e
-          at_cell tested c d q)
+          at_cell tested lane refl k c d q)
 
       pub digit_drop : {l' : List ℕ} (m : ℕ) → m ≡ len - 1 → o ≡ false → Have lane v l n have → Removed n ℓ i m l l' → Sweeping n ℓ p v l₀ l' i m
       digit_drop m c q k r =
@@ -87,9 +88,10 @@ module _ (arranged : ArrangedLane) {p v : ℕ} {l₀ : List ℕ} (a : SweepAsk a
           at_cell tested lane refl k q)
           r
 
-      pub digit_have : {l' : List ℕ} {m : ℕ} → Have lane v l n have → Removed n ℓ i m l l' → (length l' ≡ slab_size) × (v < 16) × Have lane v l' n have
-      digit_have k r = (
+      pub digit_have : {l' : List ℕ} {m t : ℕ} → t ≡ tail l → Have lane v l n have → Removed n ℓ i m l l' →
+          (length l' ≡ slab_size) × (v < 16) × (tail l' ≡ t → Have lane v l' n have)
+      digit_have u k r = (
         r.within.grown.size ∙ (sweep_bounds arranged a s).1,
         a.narrow,
-        have_kept lane v n have a.narrow a.ready.size.high r.within.grown k,
+        λ q. have_kept lane v n have a.narrow a.ready.size.high r.within.grown (q ∙ u) k,
       )

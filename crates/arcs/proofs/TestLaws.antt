@@ -5,7 +5,7 @@ use mathlib.Core.Bool.{cond}
 use native.Mathlib.Omega.{arith}
 use native.Mathlib.Decide.{ℕ_discrete}
 use lib.Dec.{eqb}
-use lib.Bits.{bit_and, bit_or, and_lt, or_lt}
+use lib.Bits.{bit_and, bit_or, and_lt, and_le_l, or_lt}
 use lib.Count.{count_trailing_zeros}
 use lib.Pow.{pow-lt, pow-add, shr-shr, field, mod-mod-pow, shl_exact}
 use borrow.Author.Tests.{eq-eqb, ne_eqb}
@@ -91,11 +91,11 @@ module _ (w v p : ℕ) (h : v < 8) (k : p < 9) where
 pub apart : (a b : ℕ) → bit_and a b ≡ 0 → (i : ℕ) → bit i a ≡ 1 → bit i b ≡ 0
 apart a b e i q = omega (arith, bit_and_lem i a b, ap (bit i) e, bit_none i, bit_lt i b)
 
-pub meeting : (a b : ℕ) → a < 2 ^ 16 → b < 2 ^ 16 → (bit_and a b ≡ 0 → ⊥) → (i : ℕ) × (i < 16) × (bit i a ≡ 1) × (bit i b ≡ 1)
-meeting a b h k d =
+pub meeting : (width a b : ℕ) → a < 2 ^ width → (bit_and a b ≡ 0 → ⊥) → (i : ℕ) × (i < width) × (bit i a ≡ 1) × (bit i b ≡ 1)
+meeting width a b h d =
     let x = bit_and a b in
-    let w = trailing_lowest 16 x (and_lt 16 a b h k) (omega arith) in
-    let i = count_trailing_zeros 16 x in
+    let w = trailing_lowest width x (omega (arith, and_le_l a b)) (omega arith) in
+    let i = count_trailing_zeros width x in
     let q = bit_and_lem i a b in
     (i, w.in_width, omega (arith, w.here, bit_lt i a), omega (arith, w.here, bit_lt i b))
 

@@ -41,9 +41,17 @@ pub record Served (n ℓ : ℕ) (l : List ℕ) (h id p : ℕ) : Type 0 where
   pub allowed : part (black_at ℓ) (word_of n id) p value ≡ 1
   pub lags : 1 ≤ lag l h (cell_at ℓ p) value
 
--- Each place that the arrangement covers is served.
-unfoldable pub Alive : ℕ → ℕ → List ℕ → ℕ → ℕ → Type 0
-Alive n ℓ l h id = (p v : ℕ) → p < n → v < 16 → part (black_at ℓ) (word_of n id) p v ≡ 1 → Served n ℓ l h id p
+-- An inner place of the arrangement has the digit d as a candidate, or its strike there waits from h on.
+pub record Placed (n ℓ : ℕ) (l : List ℕ) (h id d : ℕ) : Type 0 where
+  pub at : ℕ
+  pub within : at < n
+  pub allowed : part (black_at ℓ) (word_of n id) at d ≡ 1
+  pub lags : 1 ≤ lag l h (cell_at ℓ at) d
+
+-- Each place that the arrangement covers is served, and each digit of its set is placed.
+pub record Alive (n ℓ : ℕ) (l : List ℕ) (h id : ℕ) : Type 0 where
+  pub served : (p v : ℕ) → p < n → v < 16 → part (black_at ℓ) (word_of n id) p v ≡ 1 → Served n ℓ l h id p
+  pub placed : (p d : ℕ) → p < n → d < 8 → part (black_at ℓ) (word_of n id) p d ≡ 1 → Placed n ℓ l h id d
 
 -- Line ℓ at h: all strikes before h are handled.
 pub record Arc (n ℓ : ℕ) (l : List ℕ) (h : ℕ) : Type 0 where
@@ -52,12 +60,12 @@ pub record Arc (n ℓ : ℕ) (l : List ℕ) (h : ℕ) : Type 0 where
 
 -- ---- why arrangements and candidates go
 
--- No grid of the table has the arrangement: a cell of it has no candidate of the pattern, or a digit of its set has no cell.
+-- No grid of the table has the arrangement: a cell of it has no candidate of the pattern, or a digit of its set has no cell between its ends.
 pub data DeadArrangement (n ℓ : ℕ) (l : List ℕ) (id : ℕ) : Type 0 where
   emptied : (j : ℕ) → j < length (arrangement_of n id).digit_set + 2 →
       ((v : ℕ) → allows (black_at ℓ) (arrangement_of n id) j v ≡ true → places (table_in l) (line_at ℓ) (place n (arrangement_of n id) j) v ≡ false) → DeadArrangement n ℓ l id
   unplaced : (d : ℕ) → Memᴰ d (arrangement_of n id).digit_set →
-      ((j : ℕ) → j < length (arrangement_of n id).digit_set + 2 → places (table_in l) (line_at ℓ) (place n (arrangement_of n id) j) d ≡ false) → DeadArrangement n ℓ l id
+      ((j : ℕ) → 0 < j → j < length (arrangement_of n id).digit_set + 1 → places (table_in l) (line_at ℓ) (place n (arrangement_of n id) j) d ≡ false) → DeadArrangement n ℓ l id
 
 -- An arrangement is among the first len of the list.
 pub record Listed (ℓ len : ℕ) (l : List ℕ) (id : ℕ) : Type 0 where

@@ -44,10 +44,11 @@ pub record Removed (n ℓ i len : ℕ) (l l' : List ℕ) : Type 0 where
 
 -- ---- the sweep
 
--- The arrangement outlives the strike of the value v at place p: it has not that value there, or has another that is a candidate.
+-- The arrangement outlives the strike of the value v at place p: it has not that value there, or has another there and the value at another place, as candidates.
 pub data Outlives (n ℓ : ℕ) (l : List ℕ) (p v id : ℕ) : Type 0 where
   untouched : part (black_at ℓ) (word_of n id) p v ≡ 0 → Outlives n ℓ l p v id
-  served : (u : ℕ) → u < 16 → part (black_at ℓ) (word_of n id) p u ≡ 1 → cand l (cell_at ℓ p) u ≡ 1 → Outlives n ℓ l p v id
+  backed : (u q : ℕ) → u < 16 → part (black_at ℓ) (word_of n id) p u ≡ 1 → cand l (cell_at ℓ p) u ≡ 1 →
+      q < n → part (black_at ℓ) (word_of n id) q v ≡ 1 → cand l (cell_at ℓ q) v ≡ 1 → Outlives n ℓ l p v id
 
 -- Those before i are alive at h + 1, those from i on at h.
 pub record Aging (n ℓ : ℕ) (l : List ℕ) (h i len : ℕ) : Type 0 where

@@ -3,6 +3,7 @@
 
 ghost use Rattle.std.specs.Prelude.{◌≡◌, ◌+◌, ◌*◌, ◌≤◌, ◌<◌, length};
 ghost use Rattle.queue_state.specs.Layout.{per_line, slab_size};
+ghost use Rattle.queue_state.specs.Slab.{tail};
 ghost use Rattle.words.specs.Word.{after, word_of, Known};
 ghost use Rattle.arcs.specs.Kill.{parts, inners, InnerAsk, KillAsk};
 ghost use Rattle.arcs.specs.Arc.{live, ArcAsk, ArcDone};
@@ -109,7 +110,7 @@ fn digit_test(v: usize, p: usize) -> u32
 fn keeps(w: u32, test: u32, have: u32, cands: u16) -> bool
     ensures { Tested w test have cands result }
 {
-    w & test != test || words::covered(w) & have != 0 && cands & words::set_of(w) != 0
+    w & test != test || u32::from(words::inner_of(w)) & have != 0 && cands & words::set_of(w) != 0
 }
 
 // The places of a line that have the value v. All nine, however long it is: a fixed count costs half, and behind its end no cell has a candidate. The line
@@ -125,9 +126,9 @@ fn having(st: &[u16], arranged: ArrangedLane, v: usize) -> u32
     have
 }
 
-// The same, if strikes were made since the queue had t of them.
+// The same, if strikes were made since the queue had t of them; else those that had it then, since what is struck stands in the queue.
 fn having_since(st: &[u16], arranged: ArrangedLane, v: usize, t: u16, have: u32) -> u32
-    requires { (length st.now ≡ slab_size) × (v < 16) × Have arranged.lane v st.now arranged.lane.len have }
+    requires { (length st.now ≡ slab_size) × (v < 16) × (tail st.now ≡ t → Have arranged.lane v st.now arranged.lane.len have) }
     ensures { Have arranged.entry.lane v st.now arranged.entry.lane.len result }
 {
     if st[Slab::TAIL] == t {

@@ -3,6 +3,7 @@ use Prim.Native.Nat.{ℕ, ◌<◌}
 use mathlib.Core.Path.{◌≡◌, sym, ap₂, ◌∙◌}
 use mathlib.Core.Bool.{◌||◌}
 use mathlib.Core.List.{Memᴰ}
+use native.Mathlib.Omega.{arith}
 use Rattle.rules.specs.Grid.{digits, Line, across, down, index, Puzzle, target}
 use Rattle.rules.specs.Mark.{left_black, right_black, upper_black, lower_black}
 use Rattle.table.specs.Closed.{Arrangement, Closed, ClosedLine, Supported, Live, place}
@@ -10,7 +11,7 @@ use Rattle.rules.proofs.GridLaws.{in_line}
 use Rattle.table.specs.Table.{Table, places, first_black, half}
 use Rattle.table.specs.Lines.{Places, row_of, column_of}
 use Rattle.line_laws.proofs.Half.{digit_in, first_in, second_in}
-use Rattle.line_laws.proofs.Arranged.{IsArrangement, arranged, allows_half, step_lt}
+use Rattle.line_laws.proofs.Arranged.{IsArrangement, arranged, allows_half, set_half, step_lt}
 use Rattle.line_laws.proofs.GridLines.{place_in, places_cell}
 use Rattle.line_laws.proofs.CellValues.{half_every}
 use Rattle.table.specs.Value.{IsValue}
@@ -21,8 +22,10 @@ module _ (n k t : ℕ) (x y : Places) (same : (i v : ℕ) → i < n → Memᴰ v
   live_same : (a : Arrangement) → IsArrangement n t a → Live n k x a → Live n k y a
   live_same a w alive =
       record {
-        live = λ j h. let u = alive.live j h in
+        filled = λ j h. let u = alive.filled j h in
             (u.0, same (place n a j) u.0 (step_lt n t a w j h) (allows_half n t a w k j u.0 h u.2) ∙ u.1, u.2);
+        placed = λ d m. let u = alive.placed d m in
+            (u.0, u.1, u.2, same (place n a u.0) d (step_lt n t a w u.0 (omega (arith, u.2))) (set_half n t a w k m) ∙ u.3);
       }
 
   supported_same : (i v : ℕ) → Supported n k t x i v → Supported n k t y i v

@@ -32,7 +32,8 @@ use Rattle.queue_state.specs.Ready.{Moved}
 use Rattle.words.specs.Word.{arrangement_of, word_of, part}
 use Rattle.counters.proofs.CounterLaws.{moved_struck}
 use Rattle.counters.proofs.Families.{halves_moved, places_moved, blacks_moved}
-use Rattle.arcs.specs.Arc.{lives, live, support, Tallied, Alive, Arc, Held}
+use Rattle.arcs.specs.Arc.{lives, live, support, Tallied, Arc, Held}
+use Rattle.arcs.proofs.AliveLaws.{alive_lags}
 use Rattle.table.specs.Lines.{cell_at, black_at, line_number}
 use Rattle.invariants.specs.State.{candidates_of, Kept, Occupied, Lagging}
 
@@ -131,12 +132,10 @@ module _ {l l' : List ℕ} (s : Shrunk l l') where
       })
 
   pub arc_same : {n ℓ : ℕ} (h h' : ℕ) → ((x v : ℕ) → v < 16 → lag l' h' x v ≡ lag l h x v) → Arc n ℓ l h → Arc n ℓ l' h'
-  unfolding Alive
   arc_same {n} {ℓ} h h' lags c =
       record {
         tallied = tallied_same c.tallied;
-        alive = λ j i. rw (live_same ℓ j) (λ p v hp hv e. let u = c.alive j (subst (λ y. j < y) (lives_same ℓ) i) p v hp hv e in
-            record { value = u.value; narrow = u.narrow; allowed = u.allowed; lags = omega (arith, lags (cell_at ℓ p) u.value u.narrow, u.lags) });
+        alive = λ j i. rw (live_same ℓ j) (alive_lags n ℓ (live l ℓ j) h h' lags (c.alive j (subst (λ y. j < y) (lives_same ℓ) i)));
       }
 
   pub kept_same : {p : Puzzle} → p.size ≤ 9 → Kept p l → Kept p l'

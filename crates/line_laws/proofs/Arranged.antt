@@ -207,27 +207,40 @@ second_within a = elim a.is_inside as (λ b. cond b (length a.digit_set + 1) 0 <
 module _ (n k : ℕ) (m : Places) (a : Arrangement) (alive : Live n k m a) where
   pub live_first : m (place n a (first_step a)) k ≡ true
   live_first =
-      let u = alive.live (first_step a) (first_within a) in
+      let u = alive.filled (first_step a) (first_within a) in
       subst (λ v. m (place n a (first_step a)) v ≡ true) (eqb-true u.0 k (sym (allows_first k a u.0) ∙ u.2)) u.1
 
   pub live_second : m (place n a (second_step a)) (suc k) ≡ true
   live_second =
-      let u = alive.live (second_step a) (second_within a) in
+      let u = alive.filled (second_step a) (second_within a) in
       subst (λ v. m (place n a (second_step a)) v ≡ true) (eqb-true u.0 (suc k) (sym (allows_second k a u.0) ∙ u.2)) u.1
+
+-- The pattern allows a digit between the blacks only.
+pub digit_mid : (k : ℕ) (a : Arrangement) (j v : ℕ) → v < k → j < length a.digit_set + 2 → allows k a j v ≡ true → (0 < j) × (j < length a.digit_set + 1)
+digit_mid k a j v h l t = go (step_at a j l)
+  where
+    go : Step a j → (0 < j) × (j < length a.digit_set + 1)
+    go (at_first q) = absurd (omega (arith, eqb-true v k (sym (allows_first k a v) ∙ ap (λ x. allows k a x v) (sym q) ∙ t)))
+    go (at_second q) = absurd (omega (arith, eqb-true v (suc k) (sym (allows_second k a v) ∙ ap (λ x. allows k a x v) (sym q) ∙ t)))
+    go (at_mid b c) = (b, c)
 
 -- What the pattern allows between the blacks is a digit of the set.
 pub mid_digit : (k : ℕ) (a : Arrangement) (j v : ℕ) → 0 < j → j < length a.digit_set + 1 → allows k a j v ≡ true → Memᴰ v a.digit_set
 mid_digit k a j v l h t = any_in v a.digit_set (sym (allows_mid k a v j l h) ∙ t)
 
 module _ (n t : ℕ) (a : Arrangement) (w : IsArrangement n t a) where
-  -- What the pattern allows is a value of the half.
+  -- A digit of the set is a value of the half.
+  pub set_half : (k : ℕ) {d : ℕ} → Memᴰ d a.digit_set → Memᴰ d (half n k)
+  set_half k {d} m = digit_in n k (subset_mem (digits n) w.subset d m)
+
+  -- So is what the pattern allows.
   pub allows_half : (k j v : ℕ) → j < length a.digit_set + 2 → allows k a j v ≡ true → Memᴰ v (half n k)
   allows_half k j v h e = go (step_at a j h)
     where
       go : Step a j → Memᴰ v (half n k)
       go (at_first q) = Memᴰ.cast (eqb-true v k (sym (allows_first k a v) ∙ ap (λ x. allows k a x v) (sym q) ∙ e)) (first_in n k)
       go (at_second q) = Memᴰ.cast (eqb-true v (suc k) (sym (allows_second k a v) ∙ ap (λ x. allows k a x v) (sym q) ∙ e)) (second_in n k)
-      go (at_mid l u) = digit_in n k (subset_mem (digits n) w.subset v (mid_digit k a j v l u e))
+      go (at_mid l u) = set_half k (mid_digit k a j v l u e)
 
   -- ---- its blacks
 

@@ -170,7 +170,7 @@ module _ (n k t : ℕ) (m : Places) (small : n ≤ 9) (some : 0 < n) (high : 8 �
   -- the value at a step of the arrangement is allowed there
   allowed : (j : ℕ) → j < length sup.arrangement.digit_set + 2 → allows k sup.arrangement j (v (place n sup.arrangement j)) ≡ true
   allowed j h =
-      let u = sup.alive.live j h in
+      let u = sup.alive.filled j h in
       let e = (s (place n sup.arrangement j) (step_lt n t sup.arrangement w j h)).only u.0 (allows_half n t sup.arrangement w k j u.0 h u.2)
       u.1 in
       rw e at u.2

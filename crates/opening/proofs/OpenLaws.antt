@@ -157,13 +157,18 @@ module _ {n : ℕ} {rows columns l l₁ : List ℕ} (a : Listable n rows columns
         ∙ fresh_lag a.size a.fresh x v
         ∙ fresh_full a.size a.fresh x v h w
 
-    -- so each place that a listed arrangement covers is served
+    -- so each place that a listed arrangement covers is served, and each of its digits placed
     alive : (ℓ : ℕ) → LineOf n ℓ → (j : ℕ) → j < lives l₂ ℓ → Alive n ℓ l₂ 0 (live l₂ ℓ j)
-    unfolding Alive
-    alive ℓ o j i p v h k e =
-        let y = (lists ℓ o).known j i in
-        let w = part_value n ℓ (live l₂ ℓ j) p v a.size y e in
-        record { value = v; narrow = k; allowed = e; lags = omega (arith, lags (cell_at ℓ p) v k (valid ℓ p v o h w)) }
+    alive ℓ o j i =
+        record {
+          served = λ p v h k e. record { value = v; narrow = k; allowed = e; lags = there p v h k e };
+          placed = λ p d h k e. record { at = p; within = h; allowed = e; lags = there p d h (omega arith) e };
+        }
+      where
+        there : (p v : ℕ) → p < n → v < 16 → part (black_at ℓ) (word_of n (live l₂ ℓ j)) p v ≡ 1 → 1 ≤ lag l₂ 0 (cell_at ℓ p) v
+        there p v h k e =
+            let w = part_value n ℓ (live l₂ ℓ j) p v a.size ((lists ℓ o).known j i) e in
+            omega (arith, lags (cell_at ℓ p) v k (valid ℓ p v o h w))
 
     -- what seeding strikes lies in no live arrangement of one of its lines
     unsupported : (x v : ℕ) → BareTo l₁ n n x v → Unsupported n l₂ x v

@@ -135,7 +135,7 @@ module _ (p : Puzzle) (z : Size p.size) (g : List ℕ) (d : GridOf p g) (k : ℕ
 
       go : DeadArrangement n k l id → Rattle.line_laws.proofs.Dead.Dead n (black_at k) (places (table_in l) (line_at k)) (arrangement_of n id)
       go (emptied j h e) = no_candidate j h e
-      go (unplaced d m e) = no_cell d m (λ j _ h. e j (omega arith))
+      go (unplaced d m e) = no_cell d m e
 
 -- ---- a state
 

@@ -1,13 +1,15 @@
 -- Where no strike waits, each candidate of a line lies in a live arrangement. Assumes nothing.
-use Prim.Native.Nat.{ℕ, zero, suc, ◌+◌, ◌-◌, ◌/◌, ◌<◌}
+use Prim.Native.Nat.{ℕ, zero, suc, ◌+◌, ◌-◌, ◌/◌, ◌≤◌, ◌<◌}
 use mathlib.Core.Path.{◌≡◌, refl, sym, ap, ◌∙◌, subst}
 use mathlib.Core.Bool.{true, true≢false}
 use mathlib.Core.List.{List, Memᴰ}
 use native.Mathlib.Omega.{arith}
 use native.Mathlib.Decide.{ℕ_discrete, dec_lt}
 use lib.Dec.{eqb}
+use lib.ListN.{length}
 use borrow.Author.Tests.{lt-ltb, le-ltb, eq-eqb, eqb-true}
 use Rattle.bits.specs.Sum.{sum_over}
+use Rattle.tally.proofs.TallyLaws.{any_mem}
 use Rattle.rules.specs.Size.{Size}
 use Rattle.rules.specs.Grid.{Line, across, down}
 use Rattle.table.specs.Closed.{arrangements, place, allows, Live, Supported}
@@ -15,15 +17,17 @@ use Rattle.table.proofs.ClosedTest.{Covers, covers}
 use Rattle.table.specs.Table.{places, first_black, half}
 use Rattle.queue_state.specs.Slab.{cand, lag, table_in}
 use Rattle.queue_state.proofs.SlabLaws.{cand_lt}
-use Rattle.words.specs.Word.{size_in, Known, arrangement_of, word_of, from_of, to_of, steps, pattern, part}
+use Rattle.words.specs.Word.{mask_in, size_in, Known, arrangement_of, word_of, from_of, to_of, steps, pattern, part}
 use Rattle.words.proofs.PatternLaws.{part_lt, part_yes, part_pattern, pattern_beyond}
 use Rattle.words.proofs.WordLaws.{known_fits, known_steps, known_shaped}
-use Rattle.words.proofs.Arranged.{known_length, place_in, steps_place, pattern_allows, allows_some}
+use Rattle.words.proofs.Arranged.{known_length, place_in, steps_place, pattern_allows, allows_some, digits_narrow}
 use Rattle.arcs.proofs.KillLaws.{black_low, black_high}
-use Rattle.arcs.specs.Arc.{lives, live, Alive, Arc}
+use Rattle.arcs.specs.Arc.{lives, live, Placed, Alive, Arc}
 use Rattle.table.specs.Value.{HalfOf}
 use Rattle.table.specs.Lines.{cell_at, black_at}
+use Rattle.line_laws.proofs.Arranged.{allows_mid, digit_mid}
 use Rattle.line_laws.proofs.CellValues.{half_range}
+use Rattle.line_laws.proofs.Lists.{mem_place}
 
 -- ---- lines by number
 
@@ -79,26 +83,52 @@ module _ (n k id : ℕ) (z : Size n) (y : Known n id) where
           go (yes b) = absurd (true≢false (sym has ∙ pattern_beyond n (black_at k) (word_of n id) (known_shaped n id z y) (black_low k) p v h b))
           go (no b) = omega (arith, known_steps n id z y)
 
-  -- where no strike waits it is live if each of its places is served
+  -- where no strike waits it is live if each of its places is served and each of its digits placed
   alive_live : (ℓ : Line) (l : List ℕ) (h : ℕ) → Numbered ℓ k → ((x v : ℕ) → lag l h x v ≡ cand l x v) →
       Alive n k l h id → Live n (black_at k) (places (table_in l) ℓ) (arrangement_of n id)
-  unfolding Alive
-  alive_live ℓ l h o w a = record { live = λ j b. at j (omega (arith, known_length n id z y)) }
+  unfolding arrangement_of
+  alive_live ℓ l h o w a =
+      record { filled = λ j b. at j (omega (arith, known_length n id z y)); placed = inner }
     where
+      place_at : (j : ℕ) → j < size_in (id / 9) + 2 → place n (arrangement_of n id) j < n
+      place_at j b = place_in n id z y j (omega (arith, known_fits n id z y))
+
+      has : (p v : ℕ) → 1 ≤ lag l h (cell_at k p) v → places (table_in l) ℓ p v ≡ true
+      has p v b = o.cells l p v ∙ eq-eqb (cand l (cell_at k p) v) 1 (omega (arith, b, w (cell_at k p) v, cand_lt l (cell_at k p) v))
+
+      allowed : (j v : ℕ) → j < size_in (id / 9) + 2 →
+          pattern (black_at k) (word_of n id) (place n (arrangement_of n id) j) v ≡ allows (black_at k) (arrangement_of n id) j v
+      allowed j v b = pattern_allows n id z y (black_at k) j v (black_low k) b
+
       at : (j : ℕ) → j < size_in (id / 9) + 2 →
           (v : ℕ) × (places (table_in l) ℓ (place n (arrangement_of n id) j) v ≡ true) × (allows (black_at k) (arrangement_of n id) j v ≡ true)
       at j b =
           let p = place n (arrangement_of n id) j in
-          let allowed : (v : ℕ) → pattern (black_at k) (word_of n id) p v ≡ allows (black_at k) (arrangement_of n id) j v =
-          λ v. pattern_allows n id z y (black_at k) j v (black_low k) b in
           let u = allows_some n id z y (black_at k) j (omega (arith, black_high k)) b in
-          let s =
-          a p u.0 (place_in n id z y j (omega (arith, known_fits n id z y))) u.1
-          (part_yes (black_at k) (word_of n id) p u.0 (allowed u.0 ∙ u.2)) in
-          let v = s.value in
-          let c : places (table_in l) ℓ p v ≡ true =
-          o.cells l p v ∙ eq-eqb (cand l (cell_at k p) v) 1 (omega (arith, s.lags, w (cell_at k p) v, cand_lt l (cell_at k p) v)) in
-          (v, c, sym (allowed v) ∙ part_pattern (black_at k) (word_of n id) p v s.allowed)
+          let s = a.served p u.0 (place_at j b) u.1 (part_yes (black_at k) (word_of n id) p u.0 (allowed j u.0 b ∙ u.2)) in
+          (s.value, has p s.value s.lags, sym (allowed j s.value b) ∙ part_pattern (black_at k) (word_of n id) p s.value s.allowed)
+
+      -- a digit of the set may stand next to the head, so it is placed, and between the ends
+      inner : (d : ℕ) → Memᴰ d (arrangement_of n id).digit_set →
+          (j : ℕ) × (0 < j) × (j < length (arrangement_of n id).digit_set + 1) × (places (table_in l) ℓ (place n (arrangement_of n id) j) d ≡ true)
+      inner d m = (c.step, mid.0, mid.1, ap (λ p. places (table_in l) ℓ p d) c.there ∙ has s.at d s.lags)
+        where
+          narrow : d < 8
+          narrow = digits_narrow (mask_in (id / 9)) d m
+
+          next : 1 < length (arrangement_of n id).digit_set + 1
+          next = let x = mem_place m in omega (arith, x.1)
+
+          s : Placed n k l h id d
+          s = a.placed (place n (arrangement_of n id) 1) d (place_at 1 (omega (arith, next, known_length n id z y))) narrow
+              (part_yes (black_at k) (word_of n id) (place n (arrangement_of n id) 1) d
+              (allowed 1 d (omega (arith, next, known_length n id z y)) ∙ allows_mid (black_at k) (arrangement_of n id) d 1 (omega arith) next ∙ any_mem m))
+
+          c : Covers n (black_at k) (arrangement_of n id) s.at d
+          c = part_covers s.at d s.within s.allowed
+
+          mid : (0 < c.step) × (c.step < length (arrangement_of n id).digit_set + 1)
+          mid = digit_mid (black_at k) (arrangement_of n id) c.step d (omega (arith, narrow, black_low k)) c.within c.allowed
 
 -- ---- a line
 

@@ -23,8 +23,15 @@ use Rattle.table.proofs.Decides.{Decides, implies, restate, is, equal, agree, bo
 -- ---- live arrangements
 
 -- Each cell of the arrangement has a candidate of its pattern; the pattern has no values but the two blacks and the digits of the set.
+unfoldable pub filled_test : ℕ → ℕ → Places → Arrangement → Bool
+filled_test n k m a = all (λ j. any (λ v. m (place n a j) v && allows k a j v) (k ∷ suc k ∷ a.digit_set)) (span 0 (length a.digit_set + 2))
+
+-- Each digit of the set is a candidate of a cell between the ends.
+unfoldable pub placed_test : ℕ → Places → Arrangement → Bool
+placed_test n m a = all (λ d. any (λ j. m (place n a j) d) (span 1 (length a.digit_set))) a.digit_set
+
 unfoldable pub live_test : ℕ → ℕ → Places → Arrangement → Bool
-live_test n k m a = all (λ j. any (λ v. m (place n a j) v && allows k a j v) (k ∷ suc k ∷ a.digit_set)) (span 0 (length a.digit_set + 2))
+live_test n k m a = filled_test n k m a && placed_test n m a
 
 -- The value v of place i lies in a live arrangement of the line.
 unfoldable pub supported_test : ℕ → ℕ → ℕ → Places → ℕ → ℕ → Bool
@@ -49,12 +56,21 @@ allowed_in k a j v t = go (eqb j 0) (eqb j (length a.digit_set + 1)) a.is_inside
 
 -- The test of a live arrangement says what `Live` says.
 pub live : (n k : ℕ) (m : Places) (a : Arrangement) → Decides (live_test n k m a) (Live n k m a)
-unfolding live_test
+unfolding live_test filled_test placed_test
 live n k m a =
-    let cells : Decides (live_test n k m a) ((j : ℕ) → j < length a.digit_set + 2 → (v : ℕ) × (m (place n a j) v ≡ true) × (allows k a j v ≡ true)) =
-    each_below (λ j. restate (λ w. (w.0, allowed_in k a j w.0 w.2, (w.1, w.2))) (λ w. (w.0, w.2.0, w.2.1))
-    (some (λ v. both (is (m (place n a j) v)) (is (allows k a j v))) (k ∷ suc k ∷ a.digit_set))) (length a.digit_set + 2) in
-    record { passes = λ w. cells.passes (λ j h. w.live j h); holds = λ t. record { live = λ j h. cells.holds t j h } }
+    restate (λ w. (λ j h. w.filled j h, λ d i. w.placed d i)) (λ w. record { filled = λ j h. w.0 j h; placed = λ d i. w.1 d i }) (both cells digits)
+  where
+    cells : Decides (filled_test n k m a) ((j : ℕ) → j < length a.digit_set + 2 → (v : ℕ) × (m (place n a j) v ≡ true) × (allows k a j v ≡ true))
+    cells =
+        each_below (λ j. restate (λ w. (w.0, allowed_in k a j w.0 w.2, (w.1, w.2))) (λ w. (w.0, w.2.0, w.2.1))
+        (some (λ v. both (is (m (place n a j) v)) (is (allows k a j v))) (k ∷ suc k ∷ a.digit_set))) (length a.digit_set + 2)
+
+    digits : Decides (placed_test n m a)
+        ((d : ℕ) → Memᴰ d a.digit_set → (j : ℕ) × (0 < j) × (j < length a.digit_set + 1) × (m (place n a j) d ≡ true))
+    digits =
+        each (λ d. restate (λ w. (w.0, span_mem 1 (length a.digit_set) w.0 (omega (arith, w.1)) (omega (arith, w.2)), w.3))
+        (λ w. let r = span_in 1 (length a.digit_set) w.0 w.1 in (w.0, omega arith, omega arith, w.2))
+        (some (λ j. is (m (place n a j) d)) (span 1 (length a.digit_set)))) a.digit_set
 
 -- A step of the arrangement lies at place i, and its pattern allows the value v there.
 pub record Covers (n k : ℕ) (a : Arrangement) (i v : ℕ) : Type 0 where

@@ -53,9 +53,10 @@ allows k a j v =
     cond (eqb j 0) (eqb v (cond a.is_inside k (suc k)))
     (cond (eqb j (length a.digit_set + 1)) (eqb v (cond a.is_inside (suc k) k)) (any (eqb v) a.digit_set))
 
--- Each of its cells still has a candidate of the pattern.
+-- Each of its cells still has a candidate of the pattern, and each digit of its set is still possible in one of the cells between its ends.
 pub record Live (n k : ℕ) (m : ℕ → ℕ → Bool) (a : Arrangement) : Type 0 where
-  pub live : (j : ℕ) → j < length a.digit_set + 2 → (v : ℕ) × (m (place n a j) v ≡ true) × (allows k a j v ≡ true)
+  pub filled : (j : ℕ) → j < length a.digit_set + 2 → (v : ℕ) × (m (place n a j) v ≡ true) × (allows k a j v ≡ true)
+  pub placed : (d : ℕ) → Memᴰ d a.digit_set → (j : ℕ) × (0 < j) × (j < length a.digit_set + 1) × (m (place n a j) d ≡ true)
 
 -- The arrangement has the value v at place i.
 unfoldable pub lays : ℕ → ℕ → ℕ → ℕ → Arrangement → Bool

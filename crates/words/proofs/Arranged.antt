@@ -14,10 +14,10 @@ use Rattle.bits.specs.Bit.{bit}
 use Rattle.bits.proofs.BitLaws.{bit_zero}
 use Rattle.table.specs.Closed.{place, allows}
 use Rattle.rules.specs.Size.{Size}
-use Rattle.words.specs.Word.{mask_in, size_in, digits_of, arrangement_of, Known, word_of, pattern, covered_of, from_of, to_of, steps}
+use Rattle.words.specs.Word.{mask_in, size_in, digits_of, arrangement_of, Known, word_of, pattern, inner_of, from_of, to_of, steps}
 use Rattle.words.proofs.WordFacts.{subset_size, mask_even}
 use Rattle.words.proofs.StepLaws.{steps_on, steps_back, steps_none, steps_same, steps_lt}
-use Rattle.words.proofs.PatternLaws.{pattern_head, pattern_last, pattern_inner, pattern_inner_black, covered_on}
+use Rattle.words.proofs.PatternLaws.{pattern_head, pattern_last, pattern_inner, pattern_inner_black}
 use Rattle.words.proofs.WordLaws.{Fields, known_subset, known_fits, known_fields, known_steps, known_shaped}
 
 -- ---- the digits of a mask
@@ -256,9 +256,9 @@ module _ (n id : ℕ) (z : Size n) (y : Known n id) where
                 (ne_eqb j 0 d, known_length, ne_eqb j (size_in (id / 9) + 1) e, digit_same (get_or (digits_of (mask_in (id / 9))) 0 0)) t,
           )
 
-  -- all places of the word are the cells of the arrangement
-  pub covered_place : (j : ℕ) → j < size_in (id / 9) + 2 → bit (place n (arrangement_of n id) j) (covered_of (word_of n id)) ≡ 1
-  covered_place j l =
+  -- the cells between the ends are inner places of the word
+  pub inner_place : (j : ℕ) → 0 < j → j < size_in (id / 9) + 1 → bit (place n (arrangement_of n id) j) (inner_of (word_of n id)) ≡ 1
+  inner_place j b c =
       let fits = known_fits n id z y in
-      covered_on n 8 (word_of n id) (known_shaped n id z y) (omega arith) _ (place_in j (omega arith))
+      (known_shaped n id z y).between _ (place_in j (omega arith)) (omega (arith, place_steps j (omega arith)))
       (omega (arith, place_steps j (omega arith), known_steps n id z y))

@@ -1,5 +1,5 @@
 -- The pattern of a word, place by place. Assumes nothing.
-use Prim.Native.Nat.{ℕ, zero, suc, ◌^◌, min, max, ◌≤◌, ◌<◌}
+use Prim.Native.Nat.{ℕ, zero, suc, min, ◌≤◌, ◌<◌}
 use mathlib.Core.Path.{◌≡◌, refl, sym, ap, ◌∙◌}
 use mathlib.Core.Logic.{◌⊎◌, inl, inr, ⊎_elim}
 use mathlib.Core.Bool.{Bool, true, false, ◌&&◌, cond, true≢false, and-true, and-false}
@@ -8,10 +8,10 @@ use native.Mathlib.Decide.{dec_lt, ℕ_discrete}
 use lib.Dec.{eqb}
 use borrow.Author.Tests.{lt-ltb, le-ltb, eq-eqb, ne_eqb, eqb-true}
 use Rattle.bits.specs.Bit.{bit}
-use Rattle.bits.proofs.BitLaws.{bit_lt, bit_or_lem, bit_pow_same}
+use Rattle.bits.proofs.BitLaws.{bit_lt}
 use Rattle.bits.specs.Sum.{same}
-use Rattle.words.specs.Word.{set_of, inner_of, first_of, second_of, outside_of, pattern, part, covered_of, from_of, to_of, head_of, last_of, steps, Shaped}
-use Rattle.words.proofs.StepLaws.{steps_none, steps_zero, steps_same}
+use Rattle.words.specs.Word.{set_of, inner_of, first_of, second_of, outside_of, pattern, part, from_of, to_of, head_of, last_of, steps, Shaped}
+use Rattle.words.proofs.StepLaws.{steps_none}
 
 -- ---- as it is written
 
@@ -213,54 +213,6 @@ module _ (n k w : ℕ) (s : Shaped n w) (h : 8 ≤ k) where
 
   pub second_in : second_of w < n
   second_in = ⊎_elim (λ e. omega (arith, s.from_in)) (λ e. omega (arith, s.to_in)) ends_second
-
-  covered_bit : (p : ℕ) → bit p (covered_of w) ≡ max (max (bit p (inner_of w)) (bit p (2 ^ first_of w))) (bit p (2 ^ second_of w))
-  unfolding covered_of
-  covered_bit p = bit_or_lem p _ _ ∙ ap (λ x. max x (bit p (2 ^ second_of w))) (bit_or_lem p _ _)
-
-  from_ends : (first_of w ≡ from_of w) ⊎ (second_of w ≡ from_of w)
-  unfolding from_of
-  from_ends = go (eqb (outside_of w) 0)
-    where
-      go : (o : Bool) → (first_of w ≡ cond o (first_of w) (second_of w)) ⊎ (second_of w ≡ cond o (first_of w) (second_of w))
-      go true = inl refl
-      go false = inr refl
-
-  to_ends : (first_of w ≡ to_of w) ⊎ (second_of w ≡ to_of w)
-  unfolding to_of
-  to_ends = go (eqb (outside_of w) 0)
-    where
-      go : (o : Bool) → (first_of w ≡ cond o (second_of w) (first_of w)) ⊎ (second_of w ≡ cond o (second_of w) (first_of w))
-      go true = inr refl
-      go false = inl refl
-
-  -- a place is covered where it lies on the way
-  pub covered_on : (p : ℕ) → p < n → steps n (from_of w) p ≤ steps n (from_of w) (to_of w) → bit p (covered_of w) ≡ 1
-  covered_on p hp l = go (ℕ_discrete (first_of w) p) (ℕ_discrete (second_of w) p)
-    where
-      off : (first_of w ≡ p → ⊥) → (second_of w ≡ p → ⊥) → bit p (inner_of w) ≡ 1
-      off a b =
-          s.between p hp
-          (far (ℕ_discrete (steps n (from_of w) p) 0))
-          (near (ℕ_discrete (steps n (from_of w) p) (steps n (from_of w) (to_of w))))
-        where
-          far : Dec (steps n (from_of w) p ≡ 0) → 0 < steps n (from_of w) p
-          far (yes e) = let q = steps_zero n (from_of w) p s.from_in hp e in absurd (⊎_elim (λ d. a (d ∙ sym q)) (λ d. b (d ∙ sym q)) from_ends)
-          far (no e) = omega arith
-
-          near : Dec (steps n (from_of w) p ≡ steps n (from_of w) (to_of w)) → steps n (from_of w) p < steps n (from_of w) (to_of w)
-          near (yes e) =
-              let q = steps_same n (from_of w) p (to_of w) s.from_in hp s.to_in e in absurd (⊎_elim (λ d. a (d ∙ sym q)) (λ d. b (d ∙ sym q)) to_ends)
-          near (no e) = omega arith
-
-      go : Dec (first_of w ≡ p) → Dec (second_of w ≡ p) → bit p (covered_of w) ≡ 1
-      go (yes e) d =
-          let x : bit p (2 ^ first_of w) ≡ 1 = rw e (bit_pow_same p) in
-          omega (arith, covered_bit p, bit_lt p (inner_of w), bit_lt p (2 ^ second_of w))
-      go (no d) (yes e) =
-          let x : bit p (2 ^ second_of w) ≡ 1 = rw e (bit_pow_same p) in
-          omega (arith, covered_bit p, bit_lt p (inner_of w), bit_lt p (2 ^ first_of w))
-      go (no a) (no b) = omega (arith, covered_bit p, off a b, bit_lt p (2 ^ first_of w), bit_lt p (2 ^ second_of w))
 
   -- where a black may stand nothing else may
   pub black_alone : (p u v : ℕ) → 8 ≤ v → pattern k w p v ≡ true → pattern k w p u ≡ true → u ≡ v

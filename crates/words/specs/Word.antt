@@ -1,6 +1,5 @@
 -- Subsets of digits in one table, arrangements by number, and an arrangement packed into one word. Assumes nothing.
 use Rattle.std.specs.Prelude.{ℕ, suc, ◌+◌, ◌-◌, ◌*◌, ◌/◌, ◌%◌, ◌^◌, ◌≤◌, ◌<◌, ◌≡◌, Bool, ◌&&◌, cond, List, [], ◌∷◌, ◌⊎◌, eqb, ltb, leb, length, get_or}
-use Rattle.std.specs.Int.Bits.{bit_or}
 use Rattle.tally.specs.Tally.{span, keep}
 use Rattle.table.specs.Closed.{Arrangement}
 use Rattle.bits.specs.Bit.{bit}
@@ -107,10 +106,6 @@ pattern k w p v =
 -- The same as a number, to be counted: 1 or 0.
 unfoldable pub part : ℕ → ℕ → ℕ → ℕ → ℕ
 part k w p v = cond (pattern k w p v) 1 0
-
--- All places of a word, its ends among them.
-unfoldable pub covered_of : ℕ → ℕ
-covered_of w = bit_or (bit_or (inner_of w) (2 ^ first_of w)) (2 ^ second_of w)
 
 -- ---- from end to end
 

@@ -5,7 +5,7 @@
 #![tactic(auto)]
 
 ghost use Rattle.std.specs.Prelude.{◌≡◌, ◌+◌, ◌≤◌, ◌<◌, length, eqb, not};
-ghost use Rattle.words.specs.Word.{from_sum, set_of, inner_of, first_of, second_of, outside_of, covered_of, from_of, to_of, head_of, last_of, shift_of};
+ghost use Rattle.words.specs.Word.{from_sum, set_of, inner_of, first_of, second_of, outside_of, from_of, to_of, head_of, last_of, shift_of};
 ghost use Rattle.words.specs.Word.{inner_places, word_from, Words};
 ghost use Rattle.words.specs.Fill.{FillAsk, WordsFilled};
 
@@ -72,14 +72,6 @@ pub fn second_of(w: u32) -> usize
     ensures { result ≡ second_of w }
 {
     (w / 2097152 % 16) as usize
-}
-
-// All places.
-#[tactic(auto, using(crate::proofs::CodeLaws::shl_one), unfolding(crate::specs::Word::covered_of))]
-pub fn covered(w: u32) -> u32
-    ensures { result ≡ covered_of w }
-{
-    u32::from(inner_of(w)) | (1u32 << first_of(w)) | (1u32 << second_of(w))
 }
 
 // Whether it begins with the second black, around the line's end.

@@ -1,9 +1,10 @@
 //! The list of answers for the replay program. See oracle/README.md for the
 //! form of the records.
 //!
-//! Every answer comes from the published Rust. The rules give the refusals that
-//! the Rust does not have, and the check of a line, and decide where
-//! docs/DIFFERENCES.md lets them differ.
+//! Sums, marking, counts, verdicts and the grid of a unique puzzle come from the
+//! published Rust. The rules give the candidate tables and contradictions, the grid of
+//! a puzzle that has several, the refusals that the Rust does not have and the check of
+//! a line, and decide where docs/DIFFERENCES.md lets them differ.
 
 mod candidates;
 mod count;

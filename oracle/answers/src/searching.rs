@@ -47,10 +47,10 @@ fn drawn(rng: &mut SeededRng, size: usize) -> Asked {
     asked
 }
 
-/// Puzzles and marks of the requirements, and a contradiction that propagation does
-/// not see.
+/// Puzzles and marks of the requirements, two puzzles whose arrangements only end cells
+/// would keep alive, and those without a grid in which no contradiction is seen.
 fn named() -> Vec<Asked> {
-    vec![
+    let mut named = vec![
         two_grids(&[]),
         two_grids(&[0x0008]),
         two_grids(&[0x8008]),
@@ -60,7 +60,18 @@ fn named() -> Vec<Asked> {
         puzzle(&[1, 0, 0], &[1, 0, 0], &[]),
         puzzle(&[1, 1, 0], &[0, 1, 0], &[]),
         puzzle(&[3; 4], &[0, 1, 2, 3], &[]),
+        puzzle(&[1, 1, 0, 0], &[0; 4], &[]),
+        puzzle(&[2, 0, 4, 4, 0], &[3, 1, 6, 3, 0], &[]),
+    ];
+    named.extend(without_a_grid());
+    named
+}
+
+/// Puzzles without a grid that still have a table.
+pub fn without_a_grid() -> Vec<Asked> {
+    vec![
         puzzle(&[0, 2, 5, 0, 0], &[0, 0, 0, 2, 0], &[]),
+        puzzle(&[1, 2, 0, 0], &[1, 0, 0, 0], &[0x9090]),
     ]
 }
 

@@ -156,6 +156,49 @@ fn searching_calls_write_only_with_their_answer() {
     }
 }
 
+/// Among the tables are some of which the Rust keeps more, and among the contradictions
+/// one that it does not see.
+#[test]
+fn tables_are_those_of_the_rules() {
+    let list = list(Call::Candidates);
+    let (mut kept_more, mut seen_only_here) = (0, 0);
+    for fields in fields(Call::Candidates, &list) {
+        let (size, rows, columns) = (fields[0][0].into(), fields[1], fields[2]);
+        let (marks, after) = (rules::marks_of(fields[3]), rules::marks_of(fields[6]));
+        let rust = || reference::candidates(size, rows, columns, &marks);
+        match fields[5][0] {
+            0 => {
+                assert!(
+                    rules::is_closed(size, rows, columns, &after),
+                    "{fields:02x?}"
+                );
+                assert!(
+                    marks
+                        .iter()
+                        .all(|&mark| rules::shows_mark(size, &after, mark))
+                );
+                kept_more += usize::from(rust() != Some(after));
+            }
+            100 => seen_only_here += usize::from(rust().is_some()),
+            _ => {}
+        }
+    }
+    assert!(kept_more >= 2 && seen_only_here >= 1);
+}
+
+#[test]
+fn grids_keep_puzzle_and_marks() {
+    let list = list(Call::Solve);
+    for fields in fields(Call::Solve, &list) {
+        if fields[5][0] > 100 {
+            let marks = rules::marks_of(fields[3]);
+            let (size, after) = (fields[0][0].into(), fields[6]);
+            let is_grid = rules::satisfies(size, fields[1], fields[2], &marks, after);
+            assert!(is_grid, "{fields:02x?}");
+        }
+    }
+}
+
 #[test]
 fn counts_reach_their_cap_and_stay_below_it() {
     let list = list(Call::Count);

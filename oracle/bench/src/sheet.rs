@@ -39,13 +39,13 @@ pub fn run(sizes: &[usize]) -> Result<(), String> {
             sides.push(Side::call("Rust's solve", rust_call, &puzzles));
             sides.push(Side::program(NO_LINES, &sheet, &[]));
         }
-        let output = time(&mut sides, rounds)?;
+        let output = time(&mut sides, &lines, rounds)?;
         println!(
             "sheet, size {size}: {} lines, {rounds} rounds",
             puzzles.len()
         );
         print(&sides, puzzles.len() as f64);
-        println!("  sheet and driver write the same {output} bytes\n");
+        println!("  {output}\n");
     }
     Ok(())
 }
@@ -139,9 +139,10 @@ fn rust_call(puzzle: &Puzzle) {
 }
 
 /// Runs all sides in each round, one after the other, each round beginning with
-/// the next one. Gives the length of the output in which both programs agree.
-fn time(sides: &mut [Side], rounds: usize) -> Result<usize, String> {
-    let mut length = 0;
+/// the next one. Says how far the output of both programs is the same; where it is
+/// not, `sheet` has to show another grid of a puzzle that has several.
+fn time(sides: &mut [Side], lines: &[u8], rounds: usize) -> Result<String, String> {
+    let mut agreement = String::new();
     for round in 0..rounds {
         let mut outputs = vec![Vec::new(); sides.len()];
         for turn in 0..sides.len() {
@@ -152,12 +153,20 @@ fn time(sides: &mut [Side], rounds: usize) -> Result<usize, String> {
             side.times.push(start.elapsed().as_nanos() as f64);
             outputs[place] = output;
         }
-        if outputs[SHEET] != outputs[DRIVER] {
-            return Err("sheet and driver write different lines: run oracle/run".to_string());
-        }
-        length = outputs[SHEET].len();
+        agreement = agreed(lines, &outputs[SHEET], &outputs[DRIVER])?;
     }
-    Ok(length)
+    Ok(agreement)
+}
+
+fn agreed(lines: &[u8], sheet: &[u8], driver: &[u8]) -> Result<String, String> {
+    let wrong = |wrong| format!("sheet writes something else than driver: {wrong}");
+    let count = driver::check(lines, driver, sheet).map_err(wrong)?;
+    let with_ends = |text| <[u8]>::split_inclusive(text, |&byte| byte == b'\n');
+    let pairs = with_ends(sheet).zip(with_ends(driver));
+    let others = pairs.filter(|(sheet, driver)| sheet != driver).count();
+    Ok(format!(
+        "{count} answers, the same but for {others} grids where there are several"
+    ))
 }
 
 fn print(sides: &[Side], lines: f64) {
@@ -229,13 +238,21 @@ mod tests {
         assert!(output_of(Path::new("no-such-program"), b"").is_err());
     }
 
+    /// A puzzle that has two grids, and both of them.
+    const LINE: &[u8] = b"3 0 1 0 0 1 0\n";
+    const ONE: &[u8] = b"multiple 1##/#1#/##1\n";
+    const OTHER: &[u8] = b"multiple ##1/#1#/1##\n";
+
     #[test]
-    fn sides_have_to_agree() {
+    fn programs_have_to_agree() {
         let gives = |output: &'static [u8]| Side::new("", move || Ok(output.to_vec()));
-        let mut same = [gives(b"ab"), gives(b"ab"), gives(b"")];
-        assert_eq!(time(&mut same, 4), Ok(2));
+        let mut same = [gives(ONE), gives(ONE), gives(b"")];
+        assert!(time(&mut same, LINE, 4).is_ok_and(|said| said.contains("but for 0 ")));
         assert!(same.iter().all(|side| side.times.len() == 4));
-        assert!(time(&mut [gives(b"ab"), gives(b"a")], 1).is_err());
+        let mut other = [gives(OTHER), gives(ONE)];
+        assert!(time(&mut other, LINE, 1).is_ok_and(|said| said.contains("but for 1 ")));
+        assert!(time(&mut [gives(b"unsolvable\n"), gives(ONE)], LINE, 1).is_err());
+        assert!(time(&mut [gives(b""), gives(ONE)], LINE, 1).is_err());
     }
 
     #[test]

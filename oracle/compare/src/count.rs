@@ -20,13 +20,16 @@ impl Searching for Count {
         rules::count_refusal(unit, asked.size, &asked.rows, &asked.columns, &asked.marks)
     }
 
-    fn expected(accepted: &Accepted, Cap(cap): Cap) -> Result<Option<Expected<u64>>, String> {
+    fn expected<'a>(
+        accepted: &'a Accepted,
+        Cap(cap): Cap,
+    ) -> Result<Option<Expected<'a, u64>>, String> {
         let Some(rust) = by_rust(accepted, cap) else {
             return Ok(None);
         };
         match accepted.grids() {
             Some(grids) if cap.min(grids.len() as u64) != rust => Err(disagree(grids.len(), rust)),
-            _ => Ok(Some(Expected {
+            _ => Ok(Some(Expected::Exactly {
                 number: 0,
                 written: Some(vec![rust]),
                 label: label(rust, cap),

@@ -39,6 +39,8 @@ pub fn refused(number: u8) -> Label {
 pub struct Answer {
     pub hall: Label,
     pub classroom: Option<Label>,
+    /// A difference from the Rust that is allowed, counted beside the answer.
+    pub beside: Option<Label>,
 }
 
 impl Answer {
@@ -49,7 +51,11 @@ impl Answer {
             Some(19) => Some("classroom refused 19"),
             _ => None,
         };
-        Self { hall, classroom }
+        Self {
+            hall,
+            classroom,
+            beside: None,
+        }
     }
 }
 
@@ -118,7 +124,8 @@ pub struct Tally {
 impl Tally {
     fn add(&mut self, answer: Answer) {
         self.inputs += 1;
-        for label in [Some(answer.hall), answer.classroom].into_iter().flatten() {
+        let labels = [Some(answer.hall), answer.classroom, answer.beside];
+        for label in labels.into_iter().flatten() {
             *self.answers.entry(label).or_default() += 1;
         }
     }

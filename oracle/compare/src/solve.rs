@@ -1,11 +1,13 @@
-//! Solving: the verdict and the first grid.
+//! Solving: the verdict and a grid. The verdict and the grid of a unique puzzle come
+//! from the Rust; where there are several grids, the rules leave open which is shown.
 
 use inputs::Asked;
 use reference::{Limit, Solved};
 use rules::Unit;
 
 use crate::engine::{Engine, Question};
-use crate::searching::{Accepted, Cells, Expected, Room, Searching, disagree};
+use crate::harness::Label;
+use crate::searching::{Accepted, Cells, Expected, Left, Right, Room, Searching, disagree};
 
 pub struct Solve;
 
@@ -29,22 +31,23 @@ impl Searching for Solve {
         )
     }
 
-    fn expected(accepted: &Accepted, _cells: Cells) -> Result<Option<Expected<u8>>, String> {
-        let Some(expected) = by_rust(accepted) else {
+    fn expected<'a>(
+        accepted: &'a Accepted,
+        _cells: Cells,
+    ) -> Result<Option<Expected<'a, u8>>, String> {
+        let (rows, columns) = (accepted.rows, accepted.columns);
+        let solved = reference::solve_within(LIMIT, accepted.size, rows, columns, &accepted.marks);
+        let Some(solved) = solved else {
             return Ok(None);
         };
-        if !keeps_the_rules(accepted, expected.written.as_deref()) {
-            return Err(format!(
-                "the Rust breaks the rules: {:x?}",
-                expected.written
-            ));
-        }
-        match accepted.grids() {
-            Some(grids) if 100 + grids.len().min(2) != usize::from(expected.number) => {
-                Err(disagree(grids.len(), expected.label))
+        agree(accepted, &solved)?;
+        Ok(Some(match solved {
+            Solved::Unsolvable => exactly(100, None, "unsolvable"),
+            Solved::Unique(cells) => exactly(101, Some(cells), "unique"),
+            Solved::Multiple(first) => {
+                Expected::Allowed(Box::new(move |left| one_of_several(accepted, &first, left)))
             }
-            _ => Ok(Some(expected)),
-        }
+        }))
     }
 
     fn room(Room(length): Cells) -> usize {
@@ -62,23 +65,47 @@ impl Searching for Solve {
     }
 }
 
-/// `None` if it passes its limit.
-fn by_rust(accepted: &Accepted) -> Option<Expected<u8>> {
-    let (rows, columns) = (accepted.rows, accepted.columns);
-    let solved = reference::solve_within(LIMIT, accepted.size, rows, columns, &accepted.marks)?;
-    let (number, written, label) = match solved {
-        Solved::Unsolvable => (100, None, "unsolvable"),
-        Solved::Unique(cells) => (101, Some(cells), "unique"),
-        Solved::Multiple(cells) => (102, Some(cells), "multiple"),
-    };
-    Some(Expected {
+fn exactly(number: u8, written: Option<Vec<u8>>, label: Label) -> Expected<'static, u8> {
+    Expected::Exactly {
         number,
         written,
         label,
+    }
+}
+
+/// The Rust's grid keeps the rules and, where every grid is listed, its verdict is
+/// theirs.
+fn agree(accepted: &Accepted, solved: &Solved) -> Result<(), String> {
+    let (verdict, cells) = match solved {
+        Solved::Unsolvable => (0, None),
+        Solved::Unique(cells) => (1, Some(cells)),
+        Solved::Multiple(cells) => (2, Some(cells)),
+    };
+    if cells.is_some_and(|cells| !is_grid(accepted, cells)) {
+        return Err(format!("the Rust breaks the rules: {solved:x?}"));
+    }
+    match accepted.grids() {
+        Some(grids) if grids.len().min(2) != verdict => Err(disagree(grids.len(), solved)),
+        _ => Ok(()),
+    }
+}
+
+/// Any of the grids may be shown, not only the one that the Rust finds first.
+fn one_of_several(accepted: &Accepted, first: &[u8], left: &Left<u8>) -> Result<Right, String> {
+    if left.number != 102 || !is_grid(accepted, &left.entries) {
+        return Err(format!(
+            "answers {} and leaves {:x?}; right is 102 with a grid, say {first:x?}",
+            left.number, left.entries
+        ));
+    }
+    let is_another = left.entries != first;
+    Ok(Right {
+        label: "multiple",
+        beside: is_another.then_some("another grid than the Rust's"),
     })
 }
 
-fn keeps_the_rules(accepted: &Accepted, cells: Option<&[u8]>) -> bool {
+fn is_grid(accepted: &Accepted, cells: &[u8]) -> bool {
     let (rows, columns) = (accepted.rows, accepted.columns);
-    cells.is_none_or(|cells| rules::satisfies(accepted.size, rows, columns, &accepted.marks, cells))
+    rules::satisfies(accepted.size, rows, columns, &accepted.marks, cells)
 }

@@ -124,13 +124,24 @@ fn good_candidates(unit: Unit, asked: Question, table: &mut [u8]) -> u8 {
         return number;
     }
     let marks = rules::marks_of(asked.marks);
-    match reference::candidates(asked.size, asked.rows, asked.columns, &marks) {
+    let remaining = rules::remaining(asked.size, asked.rows, asked.columns, &marks);
+    written(remaining, table)
+}
+
+fn written(entries: Option<Vec<u16>>, table: &mut [u8]) -> u8 {
+    match entries {
         Some(entries) => {
             table.copy_from_slice(&rules::word_bytes(&entries));
             0
         }
         None => 100,
     }
+}
+
+/// Every grid of a question that is not refused, at the sizes that are listed.
+fn every_grid(asked: Question) -> Option<Vec<&'static [u8]>> {
+    let marks = rules::marks_of(asked.marks);
+    rules::every_grid(asked.size, asked.rows, asked.columns, &marks)
 }
 
 /// The smallest input of this call that shows the fault.
@@ -159,11 +170,15 @@ fn found_in_candidates(candidates: IntoBytes) -> String {
     found::<Candidates>(&Faulty { candidates, ..GOOD }).expect("the fault is found")
 }
 
+fn is_long(family: &str) -> bool {
+    family.starts_with("size 3") || family.starts_with("size 4")
+}
+
 /// Without the long lists, which the linked engine goes through in full.
 #[test]
 fn an_engine_by_the_rules_passes() {
     let mut jobs = compare::jobs(1);
-    jobs.retain(|job| !job.family().starts_with("size 3"));
+    jobs.retain(|job| !is_long(job.family()));
     assert!(report::run(&GOOD, &jobs, Duration::ZERO).is_ok());
 }
 
@@ -421,17 +436,84 @@ fn cells_written_where_there_is_no_grid_are_found() {
     assert!(input.starts_with("size 2"));
 }
 
-/// The rules leave open which grid is written; the runs do not.
+/// The last grid of the list where there are several, in the place of the Rust's.
+fn solve_with_the_last(unit: Unit, asked: Question, cells: &mut [u8]) -> u8 {
+    let number = good_solve(unit, asked, cells);
+    if number == 102
+        && let Some(grids) = every_grid(asked)
+    {
+        cells.copy_from_slice(grids.last().expect("several grids"));
+    }
+    number
+}
+
+/// The rules leave open which grid is written, and so do the runs.
 #[test]
-fn another_grid_than_the_first_is_found() {
+fn another_grid_than_the_first_passes_and_is_counted() {
+    let mut jobs = jobs_of::<Solve>(1);
+    jobs.retain(|job| !is_long(job.family()));
+    let solve = solve_with_the_last;
+    let lines = report::run(&Faulty { solve, ..GOOD }, &jobs, Duration::ZERO);
+    let lines = lines.ok().expect("each grid is right");
+    let counted = |label| {
+        lines
+            .iter()
+            .filter_map(move |line| line.tally.answers.get(label))
+    };
+    let others: u64 = counted("another grid than the Rust's").sum();
+    assert!(others > 0 && others < counted("multiple").sum());
+}
+
+#[test]
+fn a_classroom_that_shows_another_right_grid_is_found() {
+    let input = found_in_solve(|unit, asked, cells| match unit {
+        Unit::CLASSROOM => solve_with_the_last(unit, asked, cells),
+        _ => good_solve(unit, asked, cells),
+    });
+    assert!(input.starts_with("size 3"));
+}
+
+#[test]
+fn one_of_several_grids_that_breaks_a_mark_is_found() {
     let input = found_in_solve(|unit, asked, cells| {
         let number = good_solve(unit, asked, cells);
-        if number == 102 && asked.size == 3 {
-            let marks = rules::marks_of(asked.marks);
-            let grids = rules::every_grid(3, asked.rows, asked.columns, &marks);
-            let mut grids = grids.into_iter().flatten();
-            let other = grids.find(|grid| *grid != cells).expect("a second grid");
+        let grids = every_grid_if(
+            number == 102,
+            Question {
+                marks: &[],
+                ..asked
+            },
+        );
+        let is_other =
+            |grid: &&'static [u8]| every_grid(asked).is_some_and(|kept| !kept.contains(grid));
+        if let Some(other) = grids.into_iter().flatten().find(is_other) {
             cells.copy_from_slice(other);
+        }
+        number
+    });
+    assert_eq!(marks_shown(&input), 1);
+}
+
+#[test]
+fn one_of_several_grids_that_breaks_a_target_is_found() {
+    let input = found_in_solve(|unit, asked, cells| {
+        let number = good_solve(unit, asked, cells);
+        if number == 102 {
+            cells[..].rotate_left(asked.size);
+        }
+        number
+    });
+    assert!(input.starts_with("size 3") && marks_shown(&input) == 0);
+}
+
+/// The verdict alone; the buffer keeps what it held.
+#[test]
+fn one_of_several_grids_that_is_not_written_is_found() {
+    let input = found_in_solve(|unit, asked, cells| {
+        let before = cells.to_vec();
+        let number = good_solve(unit, asked, cells);
+        if number == 102 {
+            cells.copy_from_slice(&before);
         }
         number
     });
@@ -497,6 +579,153 @@ fn marks_that_are_skipped_are_found() {
         good_candidates(unit, Question { marks, ..asked }, table)
     });
     assert!(input.starts_with(SMALLEST));
+}
+
+/// The Rust's own table.
+fn candidates_of_the_rust(asked: Question, table: &mut [u8]) -> u8 {
+    let marks = rules::marks_of(asked.marks);
+    let entries = reference::candidates(asked.size, asked.rows, asked.columns, &marks);
+    written(entries, table)
+}
+
+#[test]
+fn arrangements_that_live_by_their_end_cells_are_found() {
+    let input =
+        found_in_candidates(
+            |unit, asked, table| match good_candidates(unit, asked, table) {
+                0 | 100 => candidates_of_the_rust(asked, table),
+                number => number,
+            },
+        );
+    // Size 3 has no table that differs.
+    assert!(input.starts_with("size 4") || input.starts_with("size 5"));
+}
+
+/// The same where a grid is left, so that contradictions are those of the rules.
+#[test]
+fn candidates_that_the_rust_keeps_beside_a_grid_are_found() {
+    let input = found_in_candidates(|unit, asked, table| {
+        let number = good_candidates(unit, asked, table);
+        match every_grid_if(number == 0, asked) {
+            Some(grids) if !grids.is_empty() => candidates_of_the_rust(asked, table),
+            _ => number,
+        }
+    });
+    assert!(input.starts_with("size 4") || input.starts_with("size 5"));
+}
+
+fn every_grid_if(is_accepted: bool, asked: Question) -> Option<Vec<&'static [u8]>> {
+    is_accepted.then(|| every_grid(asked)).flatten()
+}
+
+/// Every candidate is struck that no grid needs: the table has every grid, and it is
+/// closed, but marks and rules did not ask for all of that.
+#[test]
+fn a_table_that_strikes_too_much_is_found() {
+    let input = found_in_candidates(|unit, asked, table| {
+        let number = good_candidates(unit, asked, table);
+        let grids = every_grid_if(number == 0, asked).unwrap_or_default();
+        if !grids.is_empty() {
+            let mut entries = rules::marks_of(table);
+            for (place, bit) in
+                (0..entries.len()).flat_map(|place| (1..12).map(move |bit| (place, bit)))
+            {
+                let before = entries[place];
+                entries[place] &= !(1 << bit);
+                if !grids
+                    .iter()
+                    .all(|grid| rules::has_grid(asked.size, &entries, grid))
+                {
+                    entries[place] = before;
+                }
+            }
+            table.copy_from_slice(&rules::word_bytes(&entries));
+        }
+        number
+    });
+    assert!(input.starts_with("size 4"));
+}
+
+/// What live arrangements allow in a row if those are lost that keep a digit only in
+/// a cell behind the line's end.
+fn allowed_without_wrapping(size: usize, target: u8, row: &[u16]) -> Vec<u16> {
+    let mut allowed = vec![0; size];
+    for arrangement in rules::arrangements(size, target, rules::row_blacks(size)) {
+        let between = &arrangement.cells[1..arrangement.cells.len() - 1];
+        let before_the_end = between.iter().filter(|cell| cell.0 > arrangement.start);
+        let possible = before_the_end.fold(0, |all, cell| all | row[cell.0]);
+        if arrangement.is_live(row) && arrangement.digit_set & !possible == 0 {
+            arrangement
+                .cells
+                .iter()
+                .for_each(|cell| allowed[cell.0] |= cell.1);
+        }
+    }
+    allowed
+}
+
+#[test]
+fn cells_between_the_ends_that_do_not_wrap_are_found() {
+    let input = found_in_candidates(|unit, asked, table| {
+        let number = good_candidates(unit, asked, table);
+        if number == 0 {
+            let size = asked.size;
+            let [upper, lower] = rules::column_blacks(size);
+            let mut entries = rules::marks_of(table);
+            for (row, &target) in entries.chunks_mut(size).zip(asked.rows) {
+                let allowed = allowed_without_wrapping(size, target, row).into_iter();
+                row.iter_mut()
+                    .zip(allowed)
+                    .for_each(|(entry, allowed)| *entry &= allowed | upper | lower);
+            }
+            table.copy_from_slice(&rules::word_bytes(&entries));
+        }
+        number
+    });
+    assert!(input.starts_with("size 3"));
+}
+
+/// The sizes at which a grid is known by a count alone.
+#[test]
+fn contradicted_beside_a_grid_is_found() {
+    let input = found_in_candidates(|unit, asked, table| {
+        let before = table.to_vec();
+        let number = good_candidates(unit, asked, table);
+        if number == 0 && asked.size > 5 {
+            table.copy_from_slice(&before);
+            return 100;
+        }
+        number
+    });
+    assert!(input.starts_with("size 6"));
+}
+
+#[test]
+fn a_table_written_with_a_contradiction_is_found() {
+    let input = found_in_candidates(|unit, asked, table| {
+        let number = good_candidates(unit, asked, table);
+        if number == 100 {
+            table.fill(0);
+        }
+        number
+    });
+    assert!(input.starts_with("size 2"));
+}
+
+/// Where no grid is left, a table may be written, but a closed one.
+#[test]
+fn a_table_that_is_not_closed_without_a_grid_is_found() {
+    let input = found_in_candidates(|unit, asked, table| {
+        let number = good_candidates(unit, asked, table);
+        match every_grid_if(number == 100, asked) {
+            Some(grids) if grids.is_empty() && asked.marks.is_empty() => {
+                let every = (1u16 << (asked.size + 3)) - 2;
+                written(Some(vec![every; asked.size * asked.size]), table)
+            }
+            _ => number,
+        }
+    });
+    assert!(input.starts_with("size 3"));
 }
 
 /// As `good_count`, with other limits for each unit.

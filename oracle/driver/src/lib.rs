@@ -1,55 +1,9 @@
 //! Answers lines as the program `sheet` has to, with the published Rust: refusals
-//! come from the rules, everything else from its `solve`.
+//! come from the rules, everything else from its `solve`. Says of other answers whether
+//! they are right.
 
-use std::io::{self, BufRead, Write};
+mod answer;
+mod check;
 
-use reference::Solved;
-use rules::{BLACK, LinePuzzle};
-
-/// Reads lines to the end of the input and writes one answer for each. The last
-/// line may lack its line end.
-pub fn answer_lines(mut input: impl BufRead, mut output: impl Write) -> io::Result<()> {
-    let mut line = Vec::new();
-    while input.read_until(b'\n', &mut line)? > 0 {
-        let content = line.strip_suffix(b"\n").unwrap_or(&line);
-        writeln!(output, "{}", answer(content))?;
-        line.clear();
-    }
-    output.flush()
-}
-
-/// The answer to a line; neither has a line end.
-fn answer(line: &[u8]) -> String {
-    match rules::line_puzzle(line) {
-        Ok(puzzle) => solved(&puzzle),
-        Err(number) => format!("refused {number}"),
-    }
-}
-
-fn solved(puzzle: &LinePuzzle) -> String {
-    let LinePuzzle {
-        size,
-        rows,
-        columns,
-    } = puzzle;
-    match reference::solve(*size, rows, columns, &[]) {
-        Solved::Unsolvable => "unsolvable".to_string(),
-        Solved::Unique(cells) => shown("unique ", *size, &cells),
-        Solved::Multiple(cells) => shown("multiple ", *size, &cells),
-    }
-}
-
-/// A verdict with its grid: rows joined by `/`, blacks as `#`.
-fn shown(verdict: &str, size: usize, cells: &[u8]) -> String {
-    let mut shown = String::from(verdict);
-    for (place, &cell) in cells.iter().enumerate() {
-        if place > 0 && place % size == 0 {
-            shown.push('/');
-        }
-        shown.push(match cell {
-            BLACK => '#',
-            digit => char::from(b'0' + digit),
-        });
-    }
-    shown
-}
+pub use answer::answer_lines;
+pub use check::{Wrong, check};

@@ -3,27 +3,38 @@
 //!
 //! A refusal is its number. Where a call refuses, it writes nothing.
 
+mod arrangements;
+mod closed;
 mod every;
 mod fault;
+mod first_grid;
 mod grids;
 mod line;
+mod lines;
 mod marking;
 mod marks;
+mod remaining;
 mod searching;
 mod sums;
 mod table;
 mod unit;
+mod values;
 
+pub use arrangements::{Arrangement, arrangements};
+pub use closed::is_closed;
 pub use every::{LISTED, every_grid};
 pub use fault::{LineFault, line_fault};
+pub use first_grid::first_grid;
 pub use grids::{keeps_mark, satisfies, ways};
 pub use line::{LinePuzzle, line_puzzle};
 pub use marking::mark_sheet;
 pub use marks::{Mark, marks_refusal};
+pub use remaining::remaining;
 pub use searching::{candidates_refusal, count_refusal, marks_of, solve_refusal, word_bytes};
 pub use sums::{Sums, line_sum, target_sums};
 pub use table::{has_grid, is_filled, shows_mark};
 pub use unit::Unit;
+pub use values::{column_blacks, row_blacks};
 
 /// Cell byte of a cell that holds nothing.
 pub const EMPTY: u8 = 0;

@@ -1,23 +1,5 @@
+use crate::values::{bit, column_half, row_half};
 use crate::{BLACK, Mark};
-
-/// The bit of a mark's value: a digit keeps its number, the blacks 8 to 11 are
-/// the bits size - 1 to size + 2.
-fn bit(size: usize, value: u8) -> u16 {
-    match value {
-        8..=11 => 1 << (size - 1 + usize::from(value) - 8),
-        digit => 1 << digit,
-    }
-}
-
-/// The candidates of a cell's row half: its digits and row blacks.
-fn row_half(size: usize) -> u16 {
-    (1 << (size + 1)) - 2
-}
-
-/// The candidates of a cell's column half: its digits and column blacks.
-fn column_half(size: usize) -> u16 {
-    row_half(size) & !(bit(size, 8) | bit(size, 9)) | bit(size, 10) | bit(size, 11)
-}
 
 /// What a written table has to show of a mark: a rejected candidate is gone, a
 /// taken one is alone in its half (a digit: alone in its cell).

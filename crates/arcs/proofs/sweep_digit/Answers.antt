@@ -24,7 +24,7 @@ pub loop-i-preserved-then-keeps : goal.loop-i-preserved-then-keeps
 loop-i-preserved-then-keeps c = (
   digit_keep c.args.arranged c.requires.0 c.loop-i.invariant.0 c.loop-i-test.true _ _ _ _ _ c.requires.1
       c.word_at-w.ensures c.digit_test-test.ensures c.cell-cell.ensures c.keeps.ensures
-      (omega arith) (c.slice_known-in-loop-i-1.given _).fits c.if-keeps.true,
+      c.loop-i.invariant.1 (omega arith) (c.slice_known-in-loop-i-1.given _).fits c.if-keeps.true,
   c.loop-i.invariant.1,
 )
 
@@ -32,7 +32,7 @@ pub having_since-have-requires : goal.having_since-have-requires
 having_since-have-requires c =
     digit_have c.args.arranged c.requires.0 c.loop-i.invariant.0 c.loop-i-test.true _ _ _ _ _
     c.requires.1 c.word_at-w.ensures c.digit_test-test.ensures c.cell-cell.ensures
-    c.keeps.ensures c.loop-i.invariant.1 c.remove.ensures
+    c.keeps.ensures refl c.loop-i.invariant.1 c.remove.ensures
 
 pub loop-i-preserved : goal.loop-i-preserved
 loop-i-preserved c = (

@@ -17,6 +17,7 @@ pub fn families<R: Rest>() -> Vec<Family<Input<R>>> {
         Family::whole("size 3, all targets, up to two marks", || {
             with_marks(inputs::all_lists(6, &[0, 1]), 0..=2)
         }),
+        Family::whole("size 4, all targets", every_puzzle_of_size_4),
         Family::whole("every mark word, each size", every_word),
         Family::drawn("targets of grids, marks", |rng| {
             drawn(rng, inputs::of_a_grid)
@@ -43,6 +44,16 @@ fn with_marks<R: Rest>(
             .clone()
             .flat_map(move |length| lists_of(&marks, length))
             .flat_map(move |marks| with_each(&asked(&targets, &marks), R::few(size)))
+    })
+}
+
+/// Without marks: the smallest size at which the Rust's tables are not all those of the
+/// rules.
+fn every_puzzle_of_size_4<R: Rest>() -> impl Iterator<Item = Input<R>> {
+    let rest = R::few(4)[0];
+    inputs::all_lists(8, &[0, 1, 2, 3]).map(move |targets| Input {
+        asked: asked(&targets, &[]),
+        rest,
     })
 }
 

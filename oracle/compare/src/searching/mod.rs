@@ -29,10 +29,10 @@ pub trait Searching: 'static {
 
     /// What has to come back where nothing is refused; `None` if the Rust passes
     /// its limit. An error if the Rust does not give what the rules ask for.
-    fn expected(
-        accepted: &Accepted,
+    fn expected<'a>(
+        accepted: &'a Accepted,
         rest: Self::Rest,
-    ) -> Result<Option<Expected<Self::Written>>, String>;
+    ) -> Result<Option<Expected<'a, Self::Written>>, String>;
 
     /// How many entries the buffer has.
     fn room(rest: Self::Rest) -> usize;
@@ -57,19 +57,28 @@ impl<S: Searching> Call for S {
 
     /// What both units take has to come back the same from both.
     fn check(engine: &dyn Engine, input: &Self::Input) -> Result<Answer, String> {
+        let accepted = Accepted::of(&input.asked);
         let hall = match S::refusal(Unit::HALL, &input.asked, input.rest) {
             Some(number) => Some(Expected::refused(number)),
-            None => S::expected(&Accepted::of(&input.asked), input.rest)?,
+            None => S::expected(&accepted, input.rest)?,
         };
         let refused = S::refusal(Unit::CLASSROOM, &input.asked, input.rest);
-        match refused {
-            Some(number) => {
-                held_to::<S>(&Expected::refused(number), engine, Unit::CLASSROOM, input)?
-            }
-            None => held_if_known::<S>(hall.as_ref(), engine, Unit::CLASSROOM, input)?,
+        if let Some(number) = refused {
+            let left = left_by::<S>(engine, Unit::CLASSROOM, input)?;
+            in_unit(Unit::CLASSROOM, Expected::refused(number).judged(&left))?;
+        }
+        let Some(hall) = hall else {
+            return Ok(Answer::of(SKIPPED, refused));
         };
-        let label = held_if_known::<S>(hall.as_ref(), engine, Unit::HALL, input)?;
-        Ok(Answer::of(label, refused))
+        let left = left_by::<S>(engine, Unit::HALL, input)?;
+        let right = in_unit(Unit::HALL, hall.judged(&left))?;
+        if refused.is_none() {
+            the_same(&left, &left_by::<S>(engine, Unit::CLASSROOM, input)?)?;
+        }
+        Ok(Answer {
+            beside: right.beside,
+            ..Answer::of(right.label, refused)
+        })
     }
 
     fn simpler(input: &Self::Input) -> Vec<Self::Input> {
@@ -128,42 +137,73 @@ impl<'a> Accepted<'a> {
 /// An input on which the Rust passes its limit: nobody knows its answer.
 const SKIPPED: Label = "skipped";
 
-/// The number, and what is written, if anything is.
-pub struct Expected<T> {
-    pub number: u8,
-    pub written: Option<Vec<T>>,
-    pub label: Label,
+/// Says how an answer is counted, or what is wrong with it.
+type Judge<'a, T> = dyn Fn(&Left<T>) -> Result<Right, String> + 'a;
+
+/// What has to come back.
+pub enum Expected<'a, T> {
+    /// One answer: the number, and what is written, if anything is.
+    Exactly {
+        number: u8,
+        written: Option<Vec<T>>,
+        label: Label,
+    },
+    /// The rules allow several answers.
+    Allowed(Box<Judge<'a, T>>),
 }
 
-impl<T> Expected<T> {
+/// What a call left: its number, and its buffer with guards that are whole.
+#[derive(Debug, PartialEq)]
+pub struct Left<T> {
+    pub number: u8,
+    pub entries: Vec<T>,
+    pub is_untouched: bool,
+}
+
+/// How an answer that is right is counted.
+pub struct Right {
+    pub label: Label,
+    /// A difference from the Rust that is allowed.
+    pub beside: Option<Label>,
+}
+
+impl<T: Entry + Debug> Expected<'_, T> {
     fn refused(number: u8) -> Self {
-        Self {
+        Self::Exactly {
             number,
             written: None,
             label: refused(number),
         }
     }
-}
 
-fn held_if_known<S: Searching>(
-    expected: Option<&Expected<S::Written>>,
-    engine: &dyn Engine,
-    unit: Unit,
-    input: &Input<S::Rest>,
-) -> Result<Label, String> {
-    match expected {
-        Some(expected) => held_to::<S>(expected, engine, unit, input),
-        None => Ok(SKIPPED),
+    fn judged(&self, left: &Left<T>) -> Result<Right, String> {
+        let (number, written, label) = match self {
+            Self::Exactly {
+                number,
+                written,
+                label,
+            } => (*number, written, label),
+            Self::Allowed(judge) => return judge(left),
+        };
+        let is_right = match written {
+            Some(entries) => left.entries == *entries,
+            None => left.is_untouched,
+        };
+        if left.number == number && is_right {
+            let beside = None;
+            Ok(Right { label, beside })
+        } else {
+            Err(difference(number, written.as_deref(), left))
+        }
     }
 }
 
-/// The engine's number and every entry it could have touched.
-fn held_to<S: Searching>(
-    expected: &Expected<S::Written>,
+/// Runs the engine and looks at every entry that it could have touched.
+fn left_by<S: Searching>(
     engine: &dyn Engine,
     unit: Unit,
     input: &Input<S::Rest>,
-) -> Result<Label, String> {
+) -> Result<Left<S::Written>, String> {
     let Input { asked, rest } = input;
     let mut rows = Guarded::holding(&asked.rows);
     let mut columns = Guarded::holding(&asked.columns);
@@ -177,28 +217,46 @@ fn held_to<S: Searching>(
     };
     let number = S::run(engine, unit, question, *rest, buffer.content());
 
-    let is_right = match &expected.written {
-        Some(entries) => buffer.holds(entries),
-        None => buffer.is_untouched(),
-    };
-    if number != expected.number || !is_right {
-        Err(difference(unit, expected, number, buffer.content()))
+    let entries = buffer.content().to_vec();
+    if !buffer.holds(&entries) {
+        in_unit(
+            unit,
+            Err(format!("answers {number} and writes beside its buffer")),
+        )
     } else if ![rows, columns, marks].iter().all(Guarded::is_untouched) {
-        Err(format!(
-            "{unit:?}: the engine answers {number} and changed its input"
-        ))
+        in_unit(unit, Err(format!("answers {number} and changes its input")))
     } else {
-        Ok(expected.label)
+        Ok(Left {
+            number,
+            entries,
+            is_untouched: buffer.is_untouched(),
+        })
     }
 }
 
-fn difference<T: Debug>(unit: Unit, expected: &Expected<T>, number: u8, left: &[T]) -> String {
-    let right = match &expected.written {
-        Some(entries) => format!("{} with {entries:x?}", expected.number),
-        None => format!("{} and nothing written", expected.number),
+/// A difference says which unit has it.
+fn in_unit<T>(unit: Unit, found: Result<T, String>) -> Result<T, String> {
+    found.map_err(|difference| format!("{unit:?}: the engine {difference}"))
+}
+
+fn the_same<T: Debug + PartialEq>(hall: &Left<T>, classroom: &Left<T>) -> Result<(), String> {
+    if hall == classroom {
+        Ok(())
+    } else {
+        Err(format!(
+            "the units differ: the hall leaves {hall:x?}, a classroom {classroom:x?}"
+        ))
+    }
+}
+
+fn difference<T: Debug>(number: u8, written: Option<&[T]>, left: &Left<T>) -> String {
+    let right = match written {
+        Some(entries) => format!("{number} with {entries:x?}"),
+        None => format!("{number} and nothing written"),
     };
     format!(
-        "{unit:?}: the engine answers {number} and leaves {left:x?} or entries beside it; right is {right}"
+        "answers {} and leaves {:x?}; right is {right}",
+        left.number, left.entries
     )
 }
 
