@@ -15,7 +15,7 @@ use Rattle.queue_state.proofs.StruckLaws.{grown_refl, grown_trans, grown_gone}
 use Rattle.queue_state.proofs.ReadyLaws.{lag_pop}
 use Rattle.queue_state.specs.Ready.{Next}
 use Rattle.words.specs.Word.{Known, word_of, part}
-use Rattle.arcs.specs.Arc.{lives, live, support, Tallied, Served, Placed, Alive, DeadArrangement, Held, Holding}
+use Rattle.arcs.specs.Arc.{lives, live, support, Tallied, Served, Placed, Alive, DeadArrangement, Held, Backs, Holding}
 use Rattle.table.specs.Value.{HalfOf}
 use Rattle.table.specs.Lines.{cell_at, black_at}
 use Rattle.lane.proofs.LaneLaws.{cell_row, cell_column}
@@ -163,28 +163,19 @@ holding_same {n} {m} {l} {l'} {K} s c h g =
 pub holding_drop : {n ℓ i m len : ℕ} {l l' : List ℕ} {K : ℕ → ℕ → Bool} → Size n → len ≤ per_line → len ≡ m + 1 → i ≤ m → DeadArrangement n ℓ l (live l ℓ i) →
     Removed n ℓ i m l l' →
     Holding n ℓ len l K → Holding n ℓ m l' K
-unfolding Held
 holding_drop {n} {ℓ} {i} {m} {len} {l} {l'} {K} z room e h d r g = record { has = λ x v b c. still x v b c (ℕ_discrete (cand l' x v) 0); uses = uses }
   where
-    uses : (p v : ℕ) → p < n → v < 16 → HalfOf (black_at ℓ) v → K (cell_at ℓ p) v ≡ true →
-        (j : ℕ) × (j < m) × (part (black_at ℓ) (word_of n (live l' ℓ j)) p v ≡ 1)
-        × ((t : List ℕ) → ((x v : ℕ) → v < 16 → K x v ≡ true → cand t x v ≡ 1) → DeadArrangement n ℓ t (live l' ℓ j) → ⊥)
+    uses : (p v : ℕ) → p < n → v < 16 → HalfOf (black_at ℓ) v → K (cell_at ℓ p) v ≡ true → Backs n ℓ m l' K p v
     uses p v a b c k = go (g.uses p v a b c k)
       where
-        at : (j o : ℕ) → j < m → live l ℓ o ≡ live l' ℓ j → part (black_at ℓ) (word_of n (live l ℓ o)) p v ≡ 1 → Held n ℓ K (live l ℓ o) →
-            (j : ℕ) × (j < m) × (part (black_at ℓ) (word_of n (live l' ℓ j)) p v ≡ 1)
-            × ((t : List ℕ) → ((x v : ℕ) → v < 16 → K x v ≡ true → cand t x v ≡ 1) → DeadArrangement n ℓ t (live l' ℓ j) → ⊥)
+        at : (j o : ℕ) → j < m → live l ℓ o ≡ live l' ℓ j → part (black_at ℓ) (word_of n (live l ℓ o)) p v ≡ 1 → Held n ℓ K (live l ℓ o) → Backs n ℓ m l' K p v
         at j o b q s t = (j, b, subst (λ id. part (black_at ℓ) (word_of n id) p v ≡ 1) q s, subst (Held n ℓ K) q t)
 
-        go : (j : ℕ) × (j < len) × (part (black_at ℓ) (word_of n (live l ℓ j)) p v ≡ 1) × Held n ℓ K (live l ℓ j) →
-            (j : ℕ) × (j < m) × (part (black_at ℓ) (word_of n (live l' ℓ j)) p v ≡ 1)
-            × ((t : List ℕ) → ((x v : ℕ) → v < 16 → K x v ≡ true → cand t x v ≡ 1) → DeadArrangement n ℓ t (live l' ℓ j) → ⊥)
+        go : Backs n ℓ len l K p v → Backs n ℓ m l' K p v
         go u = pick (ℕ_discrete u.0 i) (ℕ_discrete u.0 m)
           where
-            pick : Dec (u.0 ≡ i) → Dec (u.0 ≡ m) →
-                (j : ℕ) × (j < m) × (part (black_at ℓ) (word_of n (live l' ℓ j)) p v ≡ 1)
-                × ((t : List ℕ) → ((x v : ℕ) → v < 16 → K x v ≡ true → cand t x v ≡ 1) → DeadArrangement n ℓ t (live l' ℓ j) → ⊥)
-            pick (yes q) _ = absurd (u.3 l g.has (subst (DeadArrangement n ℓ l) (sym (ap (live l ℓ) q)) d))
+            pick : Dec (u.0 ≡ i) → Dec (u.0 ≡ m) → Backs n ℓ m l' K p v
+            pick (yes q) _ = absurd ((subst (DeadArrangement n ℓ l) (sym (ap (live l ℓ) q)) d).dead (u.3 l g.has))
             pick (no q) (yes o) = at i u.0 (omega (arith, u.1)) (ap (live l ℓ) o ∙ sym r.here) u.2 u.3
             pick (no q) (no o) = at u.0 u.0 (omega (arith, u.1)) (sym (r.stays u.0 (omega (arith, u.1)) q)) u.2 u.3
 

@@ -21,11 +21,11 @@ use Rattle.words.proofs.WordFacts.{mask_even}
 use Rattle.words.proofs.PatternLaws.{part_yes, part_pattern, part_digit, pattern_beyond, black_alone}
 use Rattle.words.proofs.WordLaws.{known_subset, known_fits, known_fields, known_steps, known_shaped}
 use Rattle.words.proofs.Arranged.{digits_mem, known_length, place_in, steps_place, pattern_allows, inner_place}
-use Rattle.arcs.specs.Arc.{DeadArrangement, emptied, unplaced}
+use Rattle.arcs.specs.Arc.{DeadArrangement}
 use Rattle.table.specs.Lines.{cell_at, black_at}
 use Rattle.lane.proofs.LaneLaws.{cell_in}
 use Rattle.arcs.proofs.KillLaws.{black_low, set_high}
-use Rattle.arcs.proofs.LineLaws.{line_absent}
+use Rattle.arcs.proofs.LineLaws.{line_absent, emptied, unplaced}
 use Rattle.arcs.specs.Sweep.{Outlives, untouched, backed}
 use Rattle.arcs.proofs.TestLaws.{test_taken, test_left, apart, meeting}
 use Rattle.arcs.specs.Have.{test_of, Have, Tested}
@@ -86,10 +86,10 @@ module _ (n ℓ p v id : ℕ) (l : List ℕ) (z : Size n) (y : Known n id) (hp :
     pub tested_kept : (lane : Lane) → ℓ ≡ lane.number → Have lane v l n have → x < 2 ^ 32 → cands < 2 ^ 16 → r ≡ true → Outlives n ℓ l p v id
     unfolding Have
     tested_kept lane a f b d o =
-        ⊎_elim
-        (λ q. untouched (ap (λ x. part (black_at ℓ) x p v) (sym e) ∙ test_left x v p h narrow (black_at ℓ) b q))
-        (λ q. go (test_taken x v p h narrow q.0) (meeting 16 cands (set_of x) d q.2) (meeting 9 (inner_of x) have (omega arith) q.1))
-        (t.keeps o)
+        elim (ℕ_discrete (bit_and x (test_of v p)) (test_of v p)) [
+          | no q ↦ untouched (ap (λ x. part (black_at ℓ) x p v) (sym e) ∙ test_left x v p h narrow (black_at ℓ) b q)
+          | yes q ↦ let s = t.keeps o q in go (test_taken x v p h narrow q) (meeting 16 cands (set_of x) d s.1) (meeting 9 (inner_of x) have (omega arith) s.0)
+        ]
       where
         -- what the word has at an inner place
         has : (i u : ℕ) → u < 16 → bit i (inner_of x) ≡ 1 → bit u (set_of x) ≡ 1 → part (black_at ℓ) (word_of n id) i u ≡ 1

@@ -2,24 +2,26 @@
 use Prim.Native.Nat.{ℕ, zero, suc, ◌+◌, ◌*◌, ◌≤◌, ◌<◌}
 use mathlib.Core.Path.{◌≡◌, sym, ap, ◌∙◌}
 use mathlib.Core.Logic.{◌⊎◌, inl, inr, ⊎_elim}
-use mathlib.Core.Bool.{false}
-use mathlib.Core.List.{List}
+use mathlib.Core.Bool.{true, false, true≢false}
+use mathlib.Core.List.{List, Memᴰ}
 use native.Mathlib.Omega.{arith}
 use native.Mathlib.Decide.{ℕ_discrete, dec_lt}
 use lib.Dec.{eqb}
-use borrow.Author.Tests.{lt-ltb, le-ltb, ne_eqb, eqb-false}
+use lib.ListN.{length}
+use borrow.Author.Tests.{lt-ltb, le-ltb, ne_eqb, eq-eqb, eqb-true}
+use Rattle.table.specs.Closed.{place, allows}
+use Rattle.line_laws.proofs.Arranged.{live_mono}
 use Rattle.bits.specs.Sum.{sum_over}
 use Rattle.bits.proofs.SumLaws.{sum_has, sum_same}
 use Rattle.rules.specs.Size.{Size}
 use Rattle.table.specs.Table.{places}
 use Rattle.queue_state.specs.Slab.{cand, table_in, Grown}
 use Rattle.queue_state.proofs.SlabLaws.{cand_lt}
-use Rattle.queue_state.proofs.StruckLaws.{grown_gone}
 use Rattle.words.specs.Word.{Known, arrangement_of, word_of, part}
-use Rattle.words.proofs.Arranged.{digits_narrow, allows_narrow}
+use Rattle.words.proofs.Arranged.{allows_narrow}
 use Rattle.words.proofs.PatternLaws.{part_none, part_other, pattern_past}
 use Rattle.words.proofs.WordLaws.{known_shaped}
-use Rattle.arcs.specs.Arc.{support, DeadArrangement, emptied, unplaced, Unsupported}
+use Rattle.arcs.specs.Arc.{support, DeadArrangement, Unsupported}
 use Rattle.table.specs.Value.{HalfOf}
 use Rattle.table.specs.Lines.{line_at, cell_at, black_at, LineOf}
 use Rattle.arcs.proofs.KillLaws.{black_low, black_high}
@@ -35,9 +37,6 @@ line_places l ℓ p v = elim (dec_lt ℓ 9) [ yes h ↦ rw (lt-ltb ℓ 9 h) | no
 
 pub line_absent : (l : List ℕ) (ℓ p v : ℕ) → cand l (cell_at ℓ p) v ≡ 0 → places (table_in l) (line_at ℓ) p v ≡ false
 line_absent l ℓ p v e = line_places l ℓ p v ∙ ne_eqb (cand l (cell_at ℓ p) v) 1 (omega arith)
-
-absent_line : (l : List ℕ) (ℓ p v : ℕ) → places (table_in l) (line_at ℓ) p v ≡ false → cand l (cell_at ℓ p) v ≡ 0
-absent_line l ℓ p v e = let d = eqb-false (cand l (cell_at ℓ p) v) 1 (sym (line_places l ℓ p v) ∙ e) in omega (arith, cand_lt l (cell_at ℓ p) v)
 
 -- what a word has at a place is a value of the half, and the place is one of the line
 pub part_half : (k w p v : ℕ) → 0 < part k w p v → HalfOf k v
@@ -62,14 +61,34 @@ part_place n id ℓ p v z y h q = go (dec_lt p n)
               (pattern_past n (black_at ℓ) (word_of n id) (known_shaped n id z y) (black_low ℓ) p v (omega arith) h),
         ))
 
+-- ---- why an arrangement is dead
+
+module _ {n ℓ id : ℕ} {l : List ℕ} where
+  -- a cell of it has no candidate of the pattern
+  pub emptied : (j : ℕ) → j < length (arrangement_of n id).digit_set + 2 →
+      ((v : ℕ) → allows (black_at ℓ) (arrangement_of n id) j v ≡ true → places (table_in l) (line_at ℓ) (place n (arrangement_of n id) j) v ≡ false) →
+      DeadArrangement n ℓ l id
+  emptied j h f = record { dead = λ alive. let u = alive.filled j h in true≢false (sym u.1 ∙ f u.0 u.2) }
+
+  -- a digit of its set has no cell between the ends
+  pub unplaced : (d : ℕ) → Memᴰ d (arrangement_of n id).digit_set →
+      ((j : ℕ) → 0 < j → j < length (arrangement_of n id).digit_set + 1 → places (table_in l) (line_at ℓ) (place n (arrangement_of n id) j) d ≡ false) →
+      DeadArrangement n ℓ l id
+  unplaced d m f = record { dead = λ alive. let u = alive.placed d m in true≢false (sym u.3 ∙ f u.0 u.1 u.2) }
+
 -- ---- what is dead stays dead, what has no support stays without
 
 pub dead_kept : {l l' : List ℕ} {n ℓ id : ℕ} → Grown l l' → DeadArrangement n ℓ l id → DeadArrangement n ℓ l' id
-unfolding arrangement_of
-dead_kept {l} {l'} {n} {ℓ} {id} g (emptied j h e) =
-    emptied j h (λ v t. line_absent l' ℓ _ v (grown_gone g _ v (allows_narrow n (black_at ℓ) id j v (black_high ℓ) t) (absent_line l ℓ _ v (e v t))))
-dead_kept {l} {l'} {n} {ℓ} {id} g (unplaced d m e) =
-    unplaced d m (λ j b h. line_absent l' ℓ _ d (grown_gone g _ d (let i = digits_narrow _ d m in omega arith) (absent_line l ℓ _ d (e j b h))))
+dead_kept {l} {l'} {n} {ℓ} {id} g d =
+    record {
+      dead = λ alive. d.dead (live_mono n (black_at ℓ) (arrangement_of n id) (places (table_in l') (line_at ℓ)) (places (table_in l) (line_at ℓ)) (λ j v h t e.
+          there (place n (arrangement_of n id) j) v (allows_narrow n (black_at ℓ) id j v (black_high ℓ) t) e) alive);
+    }
+  where
+    there : (p v : ℕ) → v < 16 → places (table_in l') (line_at ℓ) p v ≡ true → places (table_in l) (line_at ℓ) p v ≡ true
+    there p v h e =
+        let q = eqb-true (cand l' (cell_at ℓ p) v) 1 (sym (line_places l' ℓ p v) ∙ e) in
+        line_places l ℓ p v ∙ eq-eqb (cand l (cell_at ℓ p) v) 1 (omega (arith, g.sub (cell_at ℓ p) v h, cand_lt l (cell_at ℓ p) v))
 
 pub unsupported_kept : {n : ℕ} {l l' : List ℕ} {x v : ℕ} → Size n → v < 16 → ((y u : ℕ) → y < 162 → u < 16 → support l' y u ≤ support l y u) →
     Unsupported n l x v → Unsupported n l' x v

@@ -1,9 +1,9 @@
 -- The live arrangements of a line and their supports in the state, and what handling a strike does to them. Assumes nothing.
-use Rattle.std.specs.Prelude.{ℕ, ◌+◌, ◌*◌, ◌≤◌, ◌<◌, ◌≡◌, ◌⊎◌, Bool, true, false, length, get_or}
-use mathlib.Core.List.{List, Memᴰ}
+use Rattle.std.specs.Prelude.{ℕ, ◌+◌, ◌*◌, ◌≤◌, ◌<◌, ◌≡◌, ◌⊎◌, Bool, true, get_or}
+use mathlib.Core.List.{List}
 use Rattle.bits.specs.Sum.{sum_over}
 use Rattle.table.specs.Table.{places}
-use Rattle.table.specs.Closed.{place, allows}
+use Rattle.table.specs.Closed.{Live}
 use Rattle.queue_state.specs.Layout.{lengths_at, length_place, per_line, live_place, support_place, slab_size}
 use Rattle.queue_state.specs.Slab.{cand, lag, table_in}
 use Rattle.queue_state.specs.Ready.{Ready, Next, Moved}
@@ -60,12 +60,13 @@ pub record Arc (n ℓ : ℕ) (l : List ℕ) (h : ℕ) : Type 0 where
 
 -- ---- why arrangements and candidates go
 
--- No grid of the table has the arrangement: a cell of it has no candidate of the pattern, or a digit of its set has no cell between its ends.
-pub data DeadArrangement (n ℓ : ℕ) (l : List ℕ) (id : ℕ) : Type 0 where
-  emptied : (j : ℕ) → j < length (arrangement_of n id).digit_set + 2 →
-      ((v : ℕ) → allows (black_at ℓ) (arrangement_of n id) j v ≡ true → places (table_in l) (line_at ℓ) (place n (arrangement_of n id) j) v ≡ false) → DeadArrangement n ℓ l id
-  unplaced : (d : ℕ) → Memᴰ d (arrangement_of n id).digit_set →
-      ((j : ℕ) → 0 < j → j < length (arrangement_of n id).digit_set + 1 → places (table_in l) (line_at ℓ) (place n (arrangement_of n id) j) d ≡ false) → DeadArrangement n ℓ l id
+-- The arrangement is live in the state's table.
+abbrev pub LiveIn : ℕ → ℕ → List ℕ → ℕ → Type 0
+LiveIn n ℓ l id = Live n (black_at ℓ) (places (table_in l) (line_at ℓ)) (arrangement_of n id)
+
+-- It is dead, if it is not.
+pub record DeadArrangement (n ℓ : ℕ) (l : List ℕ) (id : ℕ) : Type 0 where
+  pub dead : LiveIn n ℓ l id → ⊥
 
 -- An arrangement is among the first len of the list.
 pub record Listed (ℓ len : ℕ) (l : List ℕ) (id : ℕ) : Type 0 where
@@ -81,17 +82,19 @@ Fewer n ℓ len l len' l' = (j : ℕ) → j < len → Listed ℓ len' l' (live l
 unfoldable pub Older : ℕ → ℕ → List ℕ → ℕ → List ℕ → Type 0
 Older ℓ len l len' l' = (j : ℕ) → j < len' → Listed ℓ len l (live l' ℓ j)
 
--- Candidates K that hold each other are never struck. (`Fewer` and `Unsupported` speak of the state after the step, where an arrangement may be dead only
--- since its own death struck the candidates: they do not show by themselves that no grid is lost. `Holding` does: K will be the candidates of a grid.)
--- No table that has all candidates of K lets the arrangement die.
-unfoldable pub Held : ℕ → ℕ → (ℕ → ℕ → Bool) → ℕ → Type 0
-Held n ℓ K id = (l : List ℕ) → ((x v : ℕ) → v < 16 → K x v ≡ true → cand l x v ≡ 1) → DeadArrangement n ℓ l id → ⊥
+-- The arrangement is live in each table that has all candidates of K.
+abbrev pub Held : ℕ → ℕ → (ℕ → ℕ → Bool) → ℕ → Type 0
+Held n ℓ K id = (l : List ℕ) → ((x v : ℕ) → v < 16 → K x v ≡ true → cand l x v ≡ 1) → LiveIn n ℓ l id
 
--- The first len of the list hold K: the table has all of K, and what K has in the line lies in one of them that K does not let die.
+-- One of the first len of the list has the value v at place p, and K keeps it alive.
+abbrev pub Backs : ℕ → ℕ → ℕ → List ℕ → (ℕ → ℕ → Bool) → ℕ → ℕ → Type 0
+Backs n ℓ len l K p v = (j : ℕ) × (j < len) × (part (black_at ℓ) (word_of n (live l ℓ j)) p v ≡ 1) × Held n ℓ K (live l ℓ j)
+
+-- The first len of the list hold K: the table has all of K, and what K has in the line lies in one of them that K keeps alive. (`Fewer` and `Unsupported` speak
+-- of the state after the step, so they do not show that nothing of a stable table is lost. This does, with its values as K.)
 pub record Holding (n ℓ len : ℕ) (l : List ℕ) (K : ℕ → ℕ → Bool) : Type 0 where
   pub has : (x v : ℕ) → v < 16 → K x v ≡ true → cand l x v ≡ 1
-  pub uses : (p v : ℕ) → p < n → v < 16 → HalfOf (black_at ℓ) v → K (cell_at ℓ p) v ≡ true →
-      (j : ℕ) × (j < len) × (part (black_at ℓ) (word_of n (live l ℓ j)) p v ≡ 1) × Held n ℓ K (live l ℓ j)
+  pub uses : (p v : ℕ) → p < n → v < 16 → HalfOf (black_at ℓ) v → K (cell_at ℓ p) v ≡ true → Backs n ℓ len l K p v
 
 -- The value v of the cell x lies in no live arrangement of one of its lines.
 pub record Unsupported (n : ℕ) (l : List ℕ) (x v : ℕ) : Type 0 where

@@ -12,8 +12,7 @@ Have lane v l p have = (q : ℕ) → q < p → bit v (get_or l (lane.start + q *
 -- An arrangement is kept if it has not the struck digit at the struck place, or an inner place of it still has the digit and the cell another digit of its
 -- set; one that goes has the digit there, and no inner place that has it, or no digit of its set in the cell.
 pub record Tested (w test have cands : ℕ) (r : Bool) : Type 0 where
-  pub keeps : r ≡ true →
-      (bit_and w test ≡ test → ⊥) ⊎ ((bit_and w test ≡ test) × (bit_and (inner_of w) have ≡ 0 → ⊥) × (bit_and cands (set_of w) ≡ 0 → ⊥))
+  pub keeps : r ≡ true → bit_and w test ≡ test → (bit_and (inner_of w) have ≡ 0 → ⊥) × (bit_and cands (set_of w) ≡ 0 → ⊥)
   pub drops : r ≡ false → (bit_and w test ≡ test) × ((bit_and (inner_of w) have ≡ 0) ⊎ (bit_and cands (set_of w) ≡ 0))
 
 -- The bits of digit v and of the inner place p.

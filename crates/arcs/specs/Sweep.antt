@@ -44,7 +44,8 @@ pub record Removed (n ℓ i len : ℕ) (l l' : List ℕ) : Type 0 where
 
 -- ---- the sweep
 
--- The arrangement outlives the strike of the value v at place p: it has not that value there, or has another there and the value at another place, as candidates.
+-- The arrangement outlives the strike of the value v at place p: it has not that value there, or has, as candidates, another there and the value at another
+-- place.
 pub data Outlives (n ℓ : ℕ) (l : List ℕ) (p v id : ℕ) : Type 0 where
   untouched : part (black_at ℓ) (word_of n id) p v ≡ 0 → Outlives n ℓ l p v id
   backed : (u q : ℕ) → u < 16 → part (black_at ℓ) (word_of n id) p u ≡ 1 → cand l (cell_at ℓ p) u ≡ 1 →

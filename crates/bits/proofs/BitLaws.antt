@@ -6,7 +6,7 @@ use native.Mathlib.Numerals.{one-add}
 use native.Mathlib.Omega.{arith}
 use lib.Dec.{lit<}
 use lib.Arith.{digits_mod}
-use lib.Pow.{pow_pos, pow-lt, shr-shr}
+use lib.Pow.{pow_pos, pow_mono, pow-lt, shr-shr}
 use lib.Count.{ones, ones_step, count_trailing_zeros, under}
 use lib.Bits.{bit_and, bit_or, and_shr, or_shr, and_step, or_step}
 use Rattle.bits.specs.Bit.{bit}
@@ -193,6 +193,17 @@ bit_kept (suc v) x (suc w) e d =
 -- a number with no set bit below w is 0
 pub bits_none : (w x : ℕ) → x < 2 ^ w → ((k : ℕ) → k < w → bit k x ≡ 0) → x ≡ 0
 bits_none w x h e = bit_ext w x 0 h (pow_pos w) (λ k l. e k l ∙ sym (bit_none k))
+
+-- numbers with the same bits are equal
+pub bits_same : (x y : ℕ) → ((k : ℕ) → bit k x ≡ bit k y) → x ≡ y
+bits_same x y f = bit_ext (x + y) x y (wide x (x + y) (omega arith)) (wide y (x + y) (omega arith)) (λ k _. f k)
+  where
+    below : (x : ℕ) → x < 2 ^ x
+    below zero = omega arith
+    below (suc x) = rw pow-suc (omega (arith, below x))
+
+    wide : (k w : ℕ) → k ≤ w → k < 2 ^ w
+    wide k w h = let m : 2 ^ k ≤ 2 ^ w = pow_mono h in omega (arith, below k)
 
 -- `1 << k` of 16 bits
 pub shl_one : (k : ℕ) → k < 16 → 1 * 2 ^ k % 65536 ≡ 2 ^ k

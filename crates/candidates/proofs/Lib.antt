@@ -1,4 +1,5 @@
 -- Facts computed from `Remaining`.
 mod RemainingFacts
+pub mod OneTable
 mod RemainingLaws
 mod SameClosed

@@ -1,7 +1,7 @@
 -- The written table from the state at rest, and the answer from it. Assumes nothing.
-use Prim.Native.Nat.{ℕ, suc, ◌+◌, ◌≤◌, ◌<◌}
-use mathlib.Core.Path.{◌≡◌, refl, sym, ap, ◌∙◌, subst}
-use mathlib.Core.Bool.{Bool, true, false, ◌&&◌, ◌||◌, true≢false, or-true}
+use Prim.Native.Nat.{ℕ, ◌≤◌, ◌<◌}
+use mathlib.Core.Path.{◌≡◌, refl, sym, ap, ◌∙◌}
+use mathlib.Core.Bool.{Bool, true, false, ◌&&◌, true≢false, or-true}
 use mathlib.Core.Logic.{◌≢◌, inl, inr}
 use mathlib.Core.List.{List, Memᴰ}
 use native.Mathlib.Omega.{arith}
@@ -19,6 +19,7 @@ use Rattle.rules.specs.Mark.{rejects, mark_row, mark_column, mark_value}
 use Rattle.rules.proofs.GridLaws.{solution_way}
 use Rattle.rules.specs.Check.{checked, solve_checks}
 use Rattle.rules.specs.Number.{solves, number, Solution}
+use Rattle.number.specs.VerdictLaws.{some_grid}
 use Rattle.table.specs.Table.{Table, first_black, every_value, fits, table_of, in_row, in_column, same_half}
 use Rattle.table.specs.Steps.{marked_all}
 use Rattle.table.specs.Closed.{Closed}
@@ -31,10 +32,13 @@ use Rattle.settled.specs.EmptyCell.{Empty}
 use Rattle.line_laws.proofs.CellValues.{CellValue, digit_value, row_black, column_black, cell_value, half_every, value_small, value_every}
 use Rattle.table.specs.Value.{IsValue}
 use Rattle.soundness.proofs.SameLaws.{same_left, same_ext, same_trans}
+use Rattle.soundness.proofs.StableLaws.{or_none, one_of, stable_fits}
 use Rattle.soundness.specs.SameGrids.{SameGrids}
+use Rattle.soundness.specs.Greatest.{GreatestAfter}
 use Rattle.soundness.proofs.Taken.{same_half_lem}
 use Rattle.soundness.proofs.MarkLaws.{marks_fits, rejected_gone, taken_alone}
-use Rattle.soundness.specs.Marks.{AcceptedMark}
+use Rattle.soundness.proofs.GridStable.{stable_whole}
+use Rattle.soundness.specs.Marks.{AcceptedMark, Whole}
 use Rattle.soundness.proofs.MarkLaws as marks
 use Rattle.queue_state.specs.Slab.{table_in}
 use Rattle.invariants.specs.State.{Propagated}
@@ -46,17 +50,9 @@ use Rattle.engine.proofs.CountLaws.{count_left}
 use Rattle.engine.proofs.SolveLaws.{SolveAsk, solve_small}
 use Rattle.candidates.specs.declared.Outcome.TheVariants.{Contradicted, Written}
 use Rattle.candidates.specs.Remaining.{Remaining, WrittenTable, TableGiven}
-use Rattle.candidates.proofs.SameClosed.{closed_same}
+use Rattle.candidates.proofs.SameClosed.{closed_same, lone_set_same}
 
 -- ---- a value that is alone in its half is there
-
-or_none : (a b : Bool) → (a || b) ≡ false → (a ≡ false) × (b ≡ false)
-or_none true b e = absurd (true≢false e)
-or_none false b e = (refl, e)
-
--- a value of the cell that is neither of two neighbours is the other
-one_of : (k w : ℕ) (Q : ℕ → Type 0) → Q k → Q (suc k) → k ≤ w → w < k + 2 → Q w
-one_of k w Q a b h g = elim (ℕ_discrete w k) [ yes e ↦ subst Q (sym e) a | no e ↦ let s : suc k ≡ w = omega arith in subst Q s b ]
 
 module _ (p : Puzzle) (t : Table) (small : p.size ≤ 9) (closed : Closed p t) (r c : ℕ) (row : r < p.size) (column : c < p.size) where
   module _ (v : ℕ) (none : (w : ℕ) → IsValue p.size w → same_half v w ≡ true → t r c w ≡ false) where
@@ -126,7 +122,11 @@ module _ {p : Puzzle} {ms : List ℕ} {len : ℕ} (a : SolveAsk p ms len) where
   mark_in = marks.accepted p.size ms a.count.marks
 
   module _ {l : List ℕ} (m : Marked p ms l) where
-    -- the state's table is the whole one after the marks
+    -- the table before the marks has each grid of the puzzle
+    whole : Whole p (table_in m.before)
+    whole = stable_whole p (solve_small a) (table_in m.before) m.rested.stable
+
+    -- the state's table is that one after the marks
     marked_same : SameGrids p (marked_all (table_in m.before) ms) (table_in l)
     marked_same =
         same_ext p (solve_small a) (λ r c v hr hc k. sym (m.table r c v (omega (arith, solve_small a)) (omega (arith, solve_small a)) (value_small p.size v (solve_small a) k)))
@@ -157,7 +157,7 @@ module _ {p : Puzzle} {ms : List ℕ} {len : ℕ} (a : SolveAsk p ms len) where
       fits_grids g s =
           let k : GridOf p g = record { filled = solution_way s; kept = and_left _ _ s.right } in
           let All-same = same_trans (marked_same) (same_trans (d.sound p refl m.kept) (same_ext p (solve_small a) (λ r c v hr hc q. sym (same r c v hr hc q)))) in
-          sym (All-same.same g k) ∙ marks_fits p (solve_small a) (table_in m.before) ms mark_in g k ∙ and_both (m.whole.whole g k) (and_right (keeps p g) _ s.right)
+          sym (All-same.same g k) ∙ marks_fits p (solve_small a) (table_in m.before) ms mark_in g k ∙ and_both (whole.whole g k) (and_right (keeps p g) _ s.right)
 
       gone : (x v : ℕ) → Memᴰ x ms → IsValue p.size v → marked_all (table_in m.before) ms (mark_row x) (mark_column x) v ≡ false →
           t (mark_row x) (mark_column x) v ≡ false
@@ -196,6 +196,39 @@ module _ {p : Puzzle} {ms : List ℕ} {len : ℕ} (a : SolveAsk p ms len) where
             alone = λ x v ℓ k e q h ne. others_gone x v k e (half_every p.size ℓ v h) ne (same_half_lem p.size (solve_small a) ℓ (mark_value x) v q h);
           }
 
+      -- Where a grid is left, both tables at rest are the greatest.
+      greatest : (g : List ℕ) → Solution p ms g → GreatestAfter p ms t
+      unfolding solves
+      greatest g s =
+          record {
+            before = table_in m.before;
+            first = record {
+              within = record { kept = λ r c v hr hc q e. refl };
+              stable = stable_fits p (solve_small a) (table_in m.before) m.rested.closed m.rested.lone_set g k (whole.whole g k);
+              greatest = m.rested.stable;
+            };
+            after = record {
+              within = record {
+                kept = λ r c v hr hc q e. sym (marked r c v hr hc q)
+                    ∙ table_kept l l' d.sub r c v (value_small p.size v (solve_small a) q) (sym (same r c v hr hc q) ∙ e);
+              };
+              stable = stable_fits p (solve_small a) t closed (lone_set_same p (table_in l') t same (d.lone_set refl)) g k (fits_grids g s);
+              greatest = record {
+                keeps = λ x y z. record {
+                  kept = λ r c v hr hc q e. same r c v hr hc q ∙ ((d.stable p refl m.kept).keeps x y (record {
+                    kept = λ r c v hr hc q e. marked r c v hr hc q ∙ z.kept r c v hr hc q e;
+                  })).kept r c v hr hc q e;
+                };
+              };
+            };
+          }
+        where
+          k : GridOf p g
+          k = record { filled = solution_way s; kept = and_left _ _ s.right }
+
+          marked : (r c v : ℕ) → r < p.size → c < p.size → IsValue p.size v → table_in l r c v ≡ marked_all (table_in m.before) ms r c v
+          marked r c v hr hc q = m.table r c v (omega (arith, solve_small a)) (omega (arith, solve_small a)) (value_small p.size v (solve_small a) q)
+
       pub written_table : length table ≡ len → WrittenTable p ms table
       unfolding t
       written_table e =
@@ -203,6 +236,7 @@ module _ {p : Puzzle} {ms : List ℕ} {len : ℕ} (a : SolveAsk p ms len) where
             size = e ∙ a.room;
             remaining = remaining;
             plain = λ r c b hr hc q. let u = w.plain r c hr hc b q in (u.0, value_every p.size u.0 (solve_small a) u.1, u.2);
+            greatest = λ h. let s = some_grid p ms h in greatest s.0 s.1;
           }
 
 -- ---- the answers

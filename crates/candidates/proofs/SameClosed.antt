@@ -1,9 +1,8 @@
--- A table that has the same candidates as a closed one is closed. Assumes nothing.
+-- A table that has the same candidates as a closed one is closed, and what is alone in a half is set in both. Assumes nothing.
 use Prim.Native.Nat.{ℕ, ◌<◌}
 use mathlib.Core.Path.{◌≡◌, sym, ap₂, ◌∙◌}
-use mathlib.Core.Bool.{◌||◌}
+use mathlib.Core.Bool.{true, ◌||◌}
 use mathlib.Core.List.{Memᴰ}
-use native.Mathlib.Omega.{arith}
 use Rattle.rules.specs.Grid.{digits, Line, across, down, index, Puzzle, target}
 use Rattle.rules.specs.Mark.{left_black, right_black, upper_black, lower_black}
 use Rattle.table.specs.Closed.{Arrangement, Closed, ClosedLine, Supported, Live, place}
@@ -11,22 +10,17 @@ use Rattle.rules.proofs.GridLaws.{in_line}
 use Rattle.table.specs.Table.{Table, places, first_black, half}
 use Rattle.table.specs.Lines.{Places, row_of, column_of}
 use Rattle.line_laws.proofs.Half.{digit_in, first_in, second_in}
-use Rattle.line_laws.proofs.Arranged.{IsArrangement, arranged, allows_half, set_half, step_lt}
+use Rattle.line_laws.proofs.Arranged.{IsArrangement, arranged, allows_half, step_lt, live_mono}
 use Rattle.line_laws.proofs.GridLines.{place_in, places_cell}
 use Rattle.line_laws.proofs.CellValues.{half_every}
-use Rattle.table.specs.Value.{IsValue}
+use Rattle.table.specs.Value.{IsValue, InHalf}
+use Rattle.table.specs.Stable.{LoneSet}
 
 -- ---- one line
 
 module _ (n k t : ℕ) (x y : Places) (same : (i v : ℕ) → i < n → Memᴰ v (half n k) → y i v ≡ x i v) where
   live_same : (a : Arrangement) → IsArrangement n t a → Live n k x a → Live n k y a
-  live_same a w alive =
-      record {
-        filled = λ j h. let u = alive.filled j h in
-            (u.0, same (place n a j) u.0 (step_lt n t a w j h) (allows_half n t a w k j u.0 h u.2) ∙ u.1, u.2);
-        placed = λ d m. let u = alive.placed d m in
-            (u.0, u.1, u.2, same (place n a u.0) d (step_lt n t a w u.0 (omega (arith, u.2))) (set_half n t a w k m) ∙ u.3);
-      }
+  live_same a w alive = live_mono n k a x y (λ j v h b e. same (place n a j) v (step_lt n t a w j h) (allows_half n t a w k j v h b) ∙ e) alive
 
   supported_same : (i v : ℕ) → Supported n k t x i v → Supported n k t y i v
   supported_same i v s =
@@ -60,6 +54,16 @@ module _ (p : Puzzle) (t u : Table) (same : (r c v : ℕ) → r < p.size → c <
   along_column : (v : ℕ) → Memᴰ v (half p.size upper_black) → IsValue p.size v
   unfolding first_black
   along_column v m = half_every p.size (down 0) v m
+
+  same_place : (ℓ : Line) → index ℓ < p.size → (i v : ℕ) → i < p.size → InHalf p.size ℓ v → places u ℓ i v ≡ true → places t ℓ i v ≡ true
+  same_place ℓ h i v k m e = sym (at ℓ h i v k m) ∙ e
+
+  pub lone_set_same : LoneSet p.size t → LoneSet p.size u
+  lone_set_same l =
+      record {
+        set = λ ℓ i v h k m e only r c w hr hc q x.
+            l.set ℓ i v h k m (same_place ℓ h i v k m e) (λ y o z. only y o (at ℓ h i y k o ∙ z)) r c w hr hc q (sym (same r c w hr hc q) ∙ x);
+      }
 
   pub closed_same : Closed p t → Closed p u
   closed_same c =

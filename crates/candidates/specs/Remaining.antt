@@ -1,5 +1,5 @@
--- The answer of Candidates, and what the table that it writes owes. Which candidates remain beyond that, and whether a contradiction is seen, is left
--- open. Assumes nothing.
+-- The answer of Candidates, and what the table that it writes owes: where a grid is left, it is determined. Which candidates remain where none is, and whether
+-- that is seen, is left open. Assumes nothing.
 use Rattle.std.specs.Prelude.{⊤, ℕ, ◌*◌, ◌<◌, ◌≡◌, true, false, ◌≢◌, ◌⊎◌, length, Result, Ok, Err}
 use mathlib.Core.List.{List, Memᴰ}
 use Rattle.tally.specs.Tally.{any}
@@ -11,6 +11,7 @@ use Rattle.rules.specs.Check.{checked, solve_checks}
 use Rattle.rules.specs.Number.{number, Solution}
 use Rattle.table.specs.Table.{Table, first_black, half, every_value, fits, bit_of, has_bit, table_of}
 use Rattle.table.specs.Closed.{Closed}
+use Rattle.soundness.specs.Greatest.{GreatestAfter}
 use Rattle.candidates.specs.declared.Outcome.{Outcome}
 use Rattle.candidates.specs.declared.Outcome.TheVariants.{Contradicted, Written}
 
@@ -35,6 +36,8 @@ pub record WrittenTable (p : Puzzle) (ms masks : List ℕ) : Type 0 where
   pub remaining : Remaining p ms (table_of p.size masks)
   pub plain : (r c b : ℕ) → r < p.size → c < p.size → has_bit (cell p.size masks r c) b ≡ true →
       (v : ℕ) × Memᴰ v (every_value p.size) × (bit_of p.size v ≡ b)
+  -- where a grid is left, it is the greatest stable table within what the marks leave of the greatest of all
+  pub greatest : 0 < number p ms → GreatestAfter p ms (table_of p.size masks)
 
 -- The answer in a unit and the buffer afterwards. On a refusal and on a contradiction the buffer is as it was; there is a contradiction only where no grid is left.
 pub record TableGiven (u : Unit) (p : Puzzle) (ms : List ℕ) (answer : Result Outcome Refusal) (table table' : List ℕ) : Type 0 where

@@ -1,7 +1,7 @@
 -- The same input in two units that both take it. What a unit refuses by its limits stands with the checks: crates/rules/proofs/UnitLaws.antt. Assumes
 -- nothing.
-use Rattle.std.specs.Prelude.{ℕ, ◌≤◌, ◌≡◌, true, List, length, Result}
-use Rattle.std.proofs.Math.Path.{sym, ap}
+use Rattle.std.specs.Prelude.{⊤, ℕ, ◌≤◌, ◌<◌, ◌≡◌, ◌⊎◌, true, List, length, Result, Ok, Err}
+use Rattle.std.proofs.Math.Path.{refl, sym, ap}
 use Rattle.std.proofs.Common.{◌∙◌, inl, inr, ⊎_elim, arith}
 use Rattle.std.proofs.Math.Decide.{ℕ_discrete}
 use Rattle.refusal.specs.declared.Refusal.{Refusal}
@@ -17,7 +17,9 @@ use Rattle.sheet_marking.specs.Answer.{mark_sheet}
 use Rattle.engine.specs.Answer.{count_answer, verdict_on, solve_answer, SolveWritten}
 use Rattle.engine.proofs.SolveLaws.{solve_asked}
 use Rattle.candidates.specs.declared.Outcome.{Outcome}
-use Rattle.candidates.specs.Remaining.{TableGiven}
+use Rattle.candidates.specs.declared.Outcome.TheVariants.{Contradicted, Written}
+use Rattle.candidates.specs.Remaining.{WrittenTable, TableGiven}
+use Rattle.candidates.proofs.OneTable.{one_written}
 
 -- Target sums: the same number, and the same bytes in both target slices.
 pub same_sums : (u v : Unit) (n : ℕ) → takes_size u n ≡ true → takes_size v n ≡ true → (cells rows columns : List ℕ) →
@@ -73,3 +75,21 @@ module _ (u v : Unit) (p : Puzzle) (a : takes_size u p.size ≡ true) (b : takes
           refused = λ k z. w.refused k (e ∙ z);
           answered = λ z. w.answered (e ∙ z);
         }
+
+    -- Where a grid is left, the answer is the same, and so is the table.
+    pub same_masks : (x y : Result Outcome Refusal) (table left right : List ℕ) → 0 < number p ms → TableGiven u p ms x table left →
+        TableGiven v p ms y table right → (x ≡ y) × (left ≡ right)
+    same_masks x y table left right h w z = go (checked (solve_checks v p ms (length table))) refl
+      where
+        e : checked (solve_checks u p ms (length table)) ≡ checked (solve_checks v p ms (length table))
+        e = ap checked (alike_solve u v p (a ∙ sym b) ms (c ∙ sym d) (length table))
+
+        given : ((x ≡ Ok Written) × WrittenTable p ms left) ⊎ ((x ≡ Ok Contradicted) × (number p ms ≡ 0) × (left ≡ table)) →
+            ((y ≡ Ok Written) × WrittenTable p ms right) ⊎ ((y ≡ Ok Contradicted) × (number p ms ≡ 0) × (right ≡ table)) → (x ≡ y) × (left ≡ right)
+        given (inl s) (inl t) = (s.0 ∙ sym t.0, one_written p ms left right h s.1 t.1)
+        given (inl s) (inr t) = absurd (omega (arith, t.1))
+        given (inr s) t = absurd (omega (arith, s.1))
+
+        go : (k : Result ⊤ Refusal) → checked (solve_checks v p ms (length table)) ≡ k → (x ≡ y) × (left ≡ right)
+        go (Err k) q = let i = w.refused k (e ∙ q) in let j = z.refused k q in (i.0 ∙ sym j.0, i.1 ∙ sym j.1)
+        go (Ok tt) q = given (w.answered (e ∙ q)) (z.answered q)

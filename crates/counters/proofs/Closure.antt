@@ -1,5 +1,5 @@
 -- Where no strike waits, the table is closed, as far as arrangements do not enter. Assumes nothing.
-use Prim.Native.Nat.{ℕ, ◌+◌, ◌*◌, ◌%◌, ◌≤◌, ◌<◌}
+use Prim.Native.Nat.{ℕ, ◌+◌, ◌*◌, ◌/◌, ◌%◌, ◌≤◌, ◌<◌}
 use mathlib.Core.Path.{◌≡◌, sym, ap, ◌∙◌}
 use mathlib.Core.Bool.{true, false, ◌||◌, true≢false}
 use mathlib.Core.Logic.{◌≢◌, ⊎_elim}
@@ -7,10 +7,13 @@ use mathlib.Core.List.{List, Memᴰ}
 use native.Mathlib.Omega.{arith}
 use native.Mathlib.Decide.{ℕ_discrete}
 use lib.ListN.{get_or}
-use Rattle.tally.proofs.TallyLaws.{test_ext, or_split}
+use Rattle.tally.proofs.TallyLaws.{test_ext, or_split, false_of}
 use Rattle.rules.specs.Grid.{digits, Line, across, down, index}
 use Rattle.rules.specs.Mark.{left_black, right_black, upper_black, lower_black}
 use Rattle.table.specs.Table.{places, first_black, half}
+use Rattle.table.specs.Lines.{row_of, column_of}
+use Rattle.table.specs.Stable.{LoneSet}
+use Rattle.table.specs.Steps.{strikes}
 use Rattle.line_laws.proofs.Half.{digit_range, digit_in}
 use Rattle.bits.proofs.SumLaws.{sum_none, sum_one}
 use Rattle.queue_state.specs.Slab.{cand, table_in, tail}
@@ -19,11 +22,11 @@ use Rattle.queue_state.proofs.ReadyLaws.{ready_valid}
 use Rattle.queue_state.specs.Ready.{Ready}
 use Rattle.set_cell.proofs.SettingLaws.{or_left, or_right}
 use Rattle.set_cell.proofs.SetLaws.{table_yes, yes_table, no_table}
-use Rattle.line_laws.proofs.CellValues.{value_range}
+use Rattle.line_laws.proofs.CellValues.{value_range, value_small}
 use Rattle.counters.specs.Counters.{IsSet, AllSet, NoBlacks, InGrid, half_value, halves_base, places_base, halves, line_places, blacks_base, own_black, cross_black, cell_blacks, HalvesOf, PlacesOf, BlacksOf, Halves, LinePlaces, Blacks}
 use Rattle.counters.proofs.CounterLaws.{ruled_rest}
 use Rattle.counters.proofs.Families.{value_narrow, value_once, value_in, HalfPlace, half_place, fine_halves, fine_places, fine_blacks}
-use Rattle.counters.proofs.Lines.{in_grid, grid_place, place_yes, yes_place, no_place, digit_in_line, half_in, in_half, cell_hit, line_hit, counter_value, counter_used, counter_cell, counter_cand}
+use Rattle.counters.proofs.Lines.{cell_is, in_grid, grid_place, place_yes, yes_place, no_place, digit_in_line, half_in, in_half, cell_hit, line_hit, counter_value, counter_used, counter_cell, counter_cand}
 use Rattle.table.specs.Lines.{cell_of}
 
 -- No strike waits for these counters.
@@ -187,6 +190,20 @@ module _ {n : ℕ} {l : List ℕ} (a : AtRest n l) where
       (omega (arith, small))
       (line_hit (across r) c j d (omega (arith, small)) (omega (arith, small)) (omega (arith, small)) (λ q. ne (sym q))
       (digit_in_line (across r) d (omega (arith, small)))))
+
+  -- what is alone in a half has been set
+  pub lone_set : LoneSet n (table_in l)
+  lone_set =
+      record {
+        set = λ ℓ i v hℓ hi m e only r c w hr hc q t.
+            let x = cell_is ℓ i (omega (arith, small)) (omega (arith, small)) in
+            let y : (r * 9 + c) / 9 ≡ r = omega (arith, small) in
+            let z : (r * 9 + c) % 9 ≡ c = omega (arith, small) in
+            false_of (strikes (row_of ℓ i) (column_of ℓ i) v r c w)
+            (λ s. true≢false (sym t ∙ no_table l r c w
+            ((half_set a.ready ℓ (halves_at a.halves ℓ) i v hℓ hi m e only).struck (place_yes l ℓ i v e) (r * 9 + c) w (value_small n w small q)
+            (rw (x.0, x.1, y, z) s))));
+      }
 
   pub blacks : (r c : ℕ) → r < n → c < n → (table_in l r c left_black || table_in l r c right_black) ≡ (table_in l r c upper_black || table_in l r c lower_black)
   blacks r c hr hc =

@@ -22,6 +22,7 @@ use Rattle.table.specs.Table.{left}
 use Rattle.puzzle.proofs.PuzzleLaws.{puzzle_numbered, accepted}
 use Rattle.soundness.proofs.SameLaws.{same_left, same_ext}
 use Rattle.soundness.proofs.MarkLaws.{marks_number}
+use Rattle.soundness.proofs.GridStable.{stable_whole}
 use Rattle.soundness.proofs.MarkLaws as marks
 use Rattle.queue_state.specs.Slab.{table_in}
 use Rattle.line_laws.proofs.CellValues.{value_small}
@@ -84,7 +85,8 @@ module _ {p : Puzzle} {ms : List ℕ} (a : CountAsk p ms) where
     pub count_left : left p (table_in l) ≡ number p ms
     count_left =
         same_left (same_ext p small (λ r c v hr hc k. m.table r c v (omega (arith, small)) (omega (arith, small)) (value_small p.size v small k)))
-        ∙ sym (marks_number p small (table_in m.before) ms (marks.accepted p.size ms a.marks) m.whole)
+        ∙ sym (marks_number p small (table_in m.before) ms (marks.accepted p.size ms a.marks)
+        (stable_whole p small (table_in m.before) m.rested.stable))
 
     pub count_found : {cap r : ℕ} {wanted : Bool} {cells cells' : List ℕ} → Searched p.size l cap wanted r cells cells' → r ≡ capped cap p ms
     unfolding capped

@@ -12,14 +12,11 @@ use borrow.Author.Tests.{eqb-true, eq-eqb, ne_eqb, ltb-true, lt-ltb}
 use Rattle.tally.specs.Tally.{any}
 use Rattle.tally.proofs.TallyLaws.{and_left, and_right, and_both, any_in, any_mem}
 use Rattle.rules.specs.Grid.{Puzzle, target}
-use Rattle.rules.specs.Mark.{has}
 use Rattle.table.specs.Closed.{arrangements}
-use Rattle.table.specs.Table.{every_value, fits}
-use Rattle.line_laws.specs.Grids.{GridOf}
-use Rattle.soundness.proofs.GridValues.{fits_has}
+use Rattle.table.specs.Table.{Table, every_value}
 use Rattle.line_laws.proofs.CellValues.{value_small}
 use Rattle.table.specs.Value.{IsValue}
-use Rattle.soundness.proofs.SameLaws.{within_fits}
+use Rattle.soundness.proofs.SameLaws.{within_trans}
 use Rattle.soundness.specs.SameGrids.{Within}
 use Rattle.table.specs.Steps.{struck}
 use Rattle.set_cell.proofs.SetLaws.{yes_table, no_table}
@@ -32,17 +29,17 @@ use Rattle.queue_state.specs.Ready.{Moved}
 use Rattle.words.specs.Word.{arrangement_of, word_of, part}
 use Rattle.counters.proofs.CounterLaws.{moved_struck}
 use Rattle.counters.proofs.Families.{halves_moved, places_moved, blacks_moved}
-use Rattle.arcs.specs.Arc.{lives, live, support, Tallied, Arc, Held}
+use Rattle.arcs.specs.Arc.{lives, live, support, Tallied, Arc, Held, Holding}
 use Rattle.arcs.proofs.AliveLaws.{alive_lags}
 use Rattle.table.specs.Lines.{cell_at, black_at, line_number}
-use Rattle.invariants.specs.State.{candidates_of, Kept, Occupied, Lagging}
+use Rattle.invariants.specs.State.{candidates_in, Kept, Occupied, Lagging}
 
 -- ---- tables that shrink
 
--- a candidate of a grid
-pub candidate_at : (n : ℕ) (g : List ℕ) (r c v : ℕ) → r < n → c < n → n ≤ 9 → IsValue n v → has n g r c v ≡ true → candidates_of n g (r * 9 + c) v ≡ true
-unfolding candidates_of
-candidate_at n g r c v hr hc z m e =
+-- a candidate of a table
+pub candidate_at : (n : ℕ) (t : Table) (r c v : ℕ) → r < n → c < n → n ≤ 9 → IsValue n v → t r c v ≡ true → candidates_in n t (r * 9 + c) v ≡ true
+unfolding candidates_in
+candidate_at n t r c v hr hc z m e =
     let a : (r * 9 + c) / 9 ≡ r = omega arith in
     let b : (r * 9 + c) % 9 ≡ c = omega arith in
     rw (a, b) (and_both (lt-ltb r n hr) (and_both (lt-ltb c n hc) (and_both (any_mem m) e)))
@@ -86,22 +83,34 @@ one_table {l} {l'} x v s i j w hi hj hw = go (ℕ_discrete i (x / 9)) (ℕ_discr
     go (yes a) (no b) e = rw (eq-eqb i (x / 9) a, ne_eqb j (x % 9) b) (kept (λ _ q _. b q) ∙ and_true (table_in l i j w))
     go (no a) b e = rw (ne_eqb i (x / 9) a) (kept (λ q _ _. a q) ∙ and_true (table_in l i j w))
 
--- ---- the candidates of a grid
+-- ---- the candidates of a table
 
--- a grid that fits has its candidates in the table
-pub fits_cand : (p : Puzzle) → p.size ≤ 9 → (g : List ℕ) → GridOf p g → (l : List ℕ) → fits p.size (table_in l) g ≡ true →
-    (x v : ℕ) → v < 16 → candidates_of p.size g x v ≡ true → cand l x v ≡ 1
-unfolding candidates_of table_in
-fits_cand p z g d l f x v h e =
-    let n = p.size in
-    let row = ltb-true (x / 9) n (and_left (ltb (x / 9) n) _ e) in
+-- The cell at place x is one of the grid, and the table has the value v there.
+pub record Candidate (n : ℕ) (t : Table) (x v : ℕ) : Type 0 where
+  pub row : x / 9 < n
+  pub column : x % 9 < n
+  pub value : IsValue n v
+  pub there : t (x / 9) (x % 9) v ≡ true
+
+pub of_candidate : (n : ℕ) (t : Table) (x v : ℕ) → candidates_in n t x v ≡ true → Candidate n t x v
+unfolding candidates_in
+of_candidate n t x v e =
     let rest = and_right (ltb (x / 9) n) _ e in
-    let column = ltb-true (x % 9) n (and_left (ltb (x % 9) n) _ rest) in
     let last = and_right (ltb (x % 9) n) _ rest in
-    let value = any_in v (every_value n) (and_left (any (eqb v) (every_value n)) _ last) in
-    let q = fits_has p z g d (table_in l) f (x / 9) (x % 9) v row column value (and_right (any (eqb v) (every_value n)) _ last) in
+    record {
+      row = ltb-true (x / 9) n (and_left (ltb (x / 9) n) _ e);
+      column = ltb-true (x % 9) n (and_left (ltb (x % 9) n) _ rest);
+      value = any_in v (every_value n) (and_left (any (eqb v) (every_value n)) _ last);
+      there = and_right (any (eqb v) (every_value n)) _ last;
+    }
+
+-- a table within the state's has its candidates there
+pub within_cand : (n : ℕ) (t : Table) (l : List ℕ) → Within n t (table_in l) → (x v : ℕ) → candidates_in n t x v ≡ true → cand l x v ≡ 1
+unfolding table_in
+within_cand n t l w x v e =
+    let c = of_candidate n t x v e in
     let s : x / 9 * 9 + x % 9 ≡ x = omega arith in
-    rw s at (eqb-true (cand l (x / 9 * 9 + x % 9) v) 1 q)
+    rw s at (eqb-true (cand l (x / 9 * 9 + x % 9) v) 1 (w.kept (x / 9) (x % 9) v c.row c.column c.value c.there))
 
 -- ---- steps that leave the arrangements alone
 
@@ -138,23 +147,25 @@ module _ {l l' : List ℕ} (s : Shrunk l l') where
         alive = λ j i. rw (live_same ℓ j) (alive_lags n ℓ (live l ℓ j) h h' lags (c.alive j (subst (λ y. j < y) (lives_same ℓ) i)));
       }
 
+  holding_shrunk : {n ℓ : ℕ} {K : ℕ → ℕ → Bool} → ((x v : ℕ) → K x v ≡ true → cand l' x v ≡ 1) → Holding n ℓ (lives l ℓ) l K → Holding n ℓ (lives l' ℓ) l' K
+  holding_shrunk {n} {ℓ} {K} h t =
+      record {
+        has = λ x v _. h x v;
+        uses = λ i v hi hv hh e. let u = t.uses i v hi hv hh e in (
+          u.0,
+          subst (λ y. u.0 < y) (sym (lives_same ℓ)) u.1,
+          ap (λ y. part (black_at ℓ) (word_of n y) i v) (live_same ℓ u.0) ∙ u.2,
+          subst (Held n ℓ K) (sym (live_same ℓ u.0)) u.3,
+        );
+      }
+
   pub kept_same : {p : Puzzle} → p.size ≤ 9 → Kept p l → Kept p l'
   kept_same {p} z q =
       record {
         member = λ ℓ h j i.
             subst (λ y. Memᴰ (arrangement_of p.size y) (arrangements p.size (target p ℓ))) (sym (live_same (line_number ℓ) j))
             (q.member ℓ h j (subst (λ y. j < y) (lives_same (line_number ℓ)) i));
-        holds = λ g d f ℓ o.
-            let t = q.holds g d (within_fits p z (within_sub p.size l l' z s.sub) g d f) ℓ o in
-            record {
-              has = fits_cand p z g d l' f;
-              uses = λ i v hi hv hh e. let u = t.uses i v hi hv hh e in (
-                u.0,
-                subst (λ y. u.0 < y) (sym (lives_same ℓ)) u.1,
-                ap (λ y. part (black_at ℓ) (word_of p.size y) i v) (live_same ℓ u.0) ∙ u.2,
-                subst (Held p.size ℓ (candidates_of p.size g)) (sym (live_same ℓ u.0)) u.3,
-              );
-            };
+        holds = λ t a w ℓ o. holding_shrunk (within_cand p.size t l' w) (q.holds t a (within_trans w (within_sub p.size l l' z s.sub)) ℓ o);
       }
 
 -- counters before the lengths of the lists move, and strikes are made

@@ -3,12 +3,12 @@ use Rattle.std.specs.Prelude.{ℕ, ◌/◌, ◌%◌, ◌≤◌, ◌<◌, ◌≡�
 use mathlib.Core.List.{List, Memᴰ}
 use Rattle.tally.specs.Tally.{any}
 use Rattle.rules.specs.Grid.{Line, index, Puzzle, target}
-use Rattle.rules.specs.Mark.{has}
 use Rattle.table.specs.Closed.{arrangements, Closed}
-use Rattle.table.specs.Table.{every_value, fits}
-use Rattle.line_laws.specs.Grids.{GridOf}
+use Rattle.table.specs.Table.{Table, every_value}
+use Rattle.table.specs.Stable.{LoneSet, Stable}
 use Rattle.settled.specs.EmptyCell.{Empty}
-use Rattle.soundness.specs.SameGrids.{SameGrids}
+use Rattle.soundness.specs.SameGrids.{Within, SameGrids}
+use Rattle.soundness.specs.Greatest.{KeepsStable}
 use Rattle.queue_state.specs.Slab.{cand, table_in, tail, lag}
 use Rattle.queue_state.specs.Ready.{Ready}
 use Rattle.words.specs.Word.{arrangement_of}
@@ -18,16 +18,16 @@ use Rattle.table.specs.Lines.{LineOf, line_number}
 
 -- ---- the live arrangements
 
--- The candidates of a grid: the cell at place x of the state has the value v.
-unfoldable pub candidates_of : ℕ → List ℕ → ℕ → ℕ → Bool
-candidates_of n g x v = ltb (x / 9) n && (ltb (x % 9) n && (any (eqb v) (every_value n) && has n g (x / 9) (x % 9) v))
+-- The candidates of a table by the places of the state: the cell at place x has the value v.
+unfoldable pub candidates_in : ℕ → Table → ℕ → ℕ → Bool
+candidates_in n t x v = ltb (x / 9) n && (ltb (x % 9) n && (any (eqb v) (every_value n) && t (x / 9) (x % 9) v))
 
--- The live arrangements are those of the puzzle's targets, and each grid that fits is held by them.
+-- The live arrangements are those of the puzzle's targets, and each stable table within the state's is held by them.
 pub record Kept (p : Puzzle) (l : List ℕ) : Type 0 where
   pub member : (ℓ : Line) → index ℓ < p.size → (j : ℕ) → j < lives l (line_number ℓ) →
       Memᴰ (arrangement_of p.size (live l (line_number ℓ) j)) (arrangements p.size (target p ℓ))
-  pub holds : (g : List ℕ) → GridOf p g → fits p.size (table_in l) g ≡ true →
-      (ℓ : ℕ) → LineOf p.size ℓ → Holding p.size ℓ (lives l ℓ) l (candidates_of p.size g)
+  pub holds : (t : Table) → Stable p t → Within p.size t (table_in l) →
+      (ℓ : ℕ) → LineOf p.size ℓ → Holding p.size ℓ (lives l ℓ) l (candidates_in p.size t)
 
 -- ---- the counters
 
@@ -60,13 +60,16 @@ pub record Emptied (n : ℕ) (l : List ℕ) : Type 0 where
   pub column_in : column < n
   pub empty : Empty n (table_in l) row column
 
--- What propagation leaves: the table has shrunk without losing a grid; then either it rests, closed and with no cell empty, or a cell is empty.
+-- What propagation leaves: the table has shrunk without losing a grid or anything of a stable table; then either it rests, closed, with no cell empty and what
+-- is alone in a half set, or a cell is empty.
 pub record Propagated (n : ℕ) (l l' : List ℕ) (rests : Bool) : Type 0 where
   pub size : length l' ≡ length l
   pub sub : (x v : ℕ) → v < 16 → cand l' x v ≤ cand l x v
   pub sound : (p : Puzzle) → p.size ≡ n → Kept p l → SameGrids p (table_in l) (table_in l')
+  pub stable : (p : Puzzle) → p.size ≡ n → Kept p l → KeepsStable p (table_in l) (table_in l')
   pub emptied : rests ≡ false → Emptied n l'
   pub lagging : rests ≡ true → Lagging n l' 0
   pub kept : rests ≡ true → (p : Puzzle) → p.size ≡ n → Kept p l → Kept p l'
   pub closed : rests ≡ true → (p : Puzzle) → p.size ≡ n → Kept p l → Closed p (table_in l')
+  pub lone_set : rests ≡ true → LoneSet n (table_in l')
   pub filled : rests ≡ true → (r c : ℕ) → r < n → c < n → Empty n (table_in l') r c → ⊥

@@ -11,7 +11,7 @@ use lib.Dec.{eqb, ltb, leb}
 use lib.ListN.{length}
 use borrow.Author.Tests.{eqb-true, eq-eqb, ne_eqb, lt-ltb, le-ltb, ltb-true, le-leb, leb-true}
 use Rattle.tally.specs.Tally.{sum, any, span, keep, join}
-use Rattle.tally.proofs.TallyLaws.{and_left, and_right, and_both, span_in, span_mem, any_in}
+use Rattle.tally.proofs.TallyLaws.{and_left, and_right, and_both, span_in, span_mem, any_in, any_mem}
 use Rattle.rules.specs.Grid.{digits, meets}
 use Rattle.table.specs.Closed.{Arrangement, subsets, subsets_with, from_starts, insides, outsides, arrangements, place, allows, Live}
 use Rattle.table.proofs.ClosedTest.{Covers}
@@ -203,6 +203,16 @@ first_within a = elim a.is_inside as (λ b. cond b 0 (length a.digit_set + 1) < 
 pub second_within : (a : Arrangement) → second_step a < length a.digit_set + 2
 second_within a = elim a.is_inside as (λ b. cond b (length a.digit_set + 1) 0 < length a.digit_set + 2) [ true ↦ omega arith | false ↦ omega arith ]
 
+-- An arrangement that is live in one table is live in another that still has what its pattern allows.
+pub live_mono : (n k : ℕ) (a : Arrangement) (x y : Places) →
+    ((j v : ℕ) → j < length a.digit_set + 2 → allows k a j v ≡ true → x (place n a j) v ≡ true → y (place n a j) v ≡ true) → Live n k x a → Live n k y a
+live_mono n k a x y f alive =
+    record {
+      filled = λ j h. let u = alive.filled j h in (u.0, f j u.0 h u.2 u.1, u.2);
+      placed = λ d m. let u = alive.placed d m in
+          (u.0, u.1, u.2, f u.0 d (omega (arith, u.2)) (allows_mid k a d u.0 u.1 u.2 ∙ any_mem m) u.3);
+    }
+
 -- A live arrangement still has its blacks.
 module _ (n k : ℕ) (m : Places) (a : Arrangement) (alive : Live n k m a) where
   pub live_first : m (place n a (first_step a)) k ≡ true
@@ -229,18 +239,14 @@ pub mid_digit : (k : ℕ) (a : Arrangement) (j v : ℕ) → 0 < j → j < length
 mid_digit k a j v l h t = any_in v a.digit_set (sym (allows_mid k a v j l h) ∙ t)
 
 module _ (n t : ℕ) (a : Arrangement) (w : IsArrangement n t a) where
-  -- A digit of the set is a value of the half.
-  pub set_half : (k : ℕ) {d : ℕ} → Memᴰ d a.digit_set → Memᴰ d (half n k)
-  set_half k {d} m = digit_in n k (subset_mem (digits n) w.subset d m)
-
-  -- So is what the pattern allows.
+  -- What the pattern allows is a value of the half.
   pub allows_half : (k j v : ℕ) → j < length a.digit_set + 2 → allows k a j v ≡ true → Memᴰ v (half n k)
   allows_half k j v h e = go (step_at a j h)
     where
       go : Step a j → Memᴰ v (half n k)
       go (at_first q) = Memᴰ.cast (eqb-true v k (sym (allows_first k a v) ∙ ap (λ x. allows k a x v) (sym q) ∙ e)) (first_in n k)
       go (at_second q) = Memᴰ.cast (eqb-true v (suc k) (sym (allows_second k a v) ∙ ap (λ x. allows k a x v) (sym q) ∙ e)) (second_in n k)
-      go (at_mid l u) = set_half k (mid_digit k a j v l u e)
+      go (at_mid l u) = digit_in n k (subset_mem (digits n) w.subset v (mid_digit k a j v l u e))
 
   -- ---- its blacks
 

@@ -1,8 +1,7 @@
 -- What the proofs of several functions use.
 pub mod Arranged
-pub mod Dead
 pub mod Filled
-mod Followed
+pub mod Followed
 pub mod Found
 pub mod GridLines
 pub mod Half

@@ -1,4 +1,4 @@
--- The opened state: its counters are right, its lists hold every grid, and its table is whole. Assumes nothing.
+-- The opened state: its counters are right, and its lists hold each stable table, which lies within the state's. Assumes nothing.
 use Prim.Native.Nat.{ℕ, ◌+◌, ◌-◌, ◌≤◌, ◌<◌}
 use mathlib.Core.Path.{◌≡◌, sym, ap, ◌∙◌, subst}
 use mathlib.Core.Logic.{inl, inr}
@@ -11,7 +11,7 @@ use Rattle.tally.proofs.TallyLaws.{span_mem, span_in}
 use Rattle.rules.specs.Size.{Size}
 use Rattle.rules.specs.Grid.{Line, across, down, index, target, puzzle}
 use Rattle.table.specs.Closed.{Arrangement, arrangements}
-use Rattle.soundness.specs.Marks.{Whole}
+use Rattle.soundness.specs.Greatest.{KeepsStable, every_candidate}
 use Rattle.queue_state.specs.Slab.{cand, table_in}
 use Rattle.queue_state.proofs.SlabLaws.{cand_lt}
 use Rattle.queue_state.proofs.ReadyLaws.{ready_grown}
@@ -25,7 +25,7 @@ use Rattle.fresh.proofs.FreshLaws.{fresh_lag, fresh_full, fresh_ready}
 use Rattle.prepare.proofs.Started.{started_halves, started_places, started_blacks}
 use Rattle.listing.specs.Listing.{target_at}
 use Rattle.opening.specs.Opening.{Opened}
-use Rattle.prepare.proofs.Held.{held_holding, held_fits}
+use Rattle.prepare.proofs.Held.{stable_holding, stable_within}
 use Rattle.invariants.specs.State.{Kept, Occupied, Lagging}
 use Rattle.table.specs.Lines.{line_number}
 use Rattle.line_laws.proofs.LineNumbers.{number_of}
@@ -85,8 +85,8 @@ module _ {n : ℕ} {rows columns l l' : List ℕ} (s : Size n) (f : Fresh n l) (
       record {
         member = λ ℓ h j k. subst (Memᴰ (arrangement_of n (live l' (line_number ℓ) j))) (list_is ℓ h)
             (Memᴰ.map (arrangement_of n) (Memᴰ.map (λ i. live l' (line_number ℓ) i) (span_mem 0 (lives l' (line_number ℓ)) j (omega arith) (omega arith))));
-        holds = λ g d _. held_holding (puzzle n rows columns) s l' (λ k w. (o.arcs k w).tallied) all_listed bare g d;
+        holds = λ t a _. stable_holding (puzzle n rows columns) s l' (λ k w. (o.arcs k w).tallied) all_listed bare t a;
       }
 
-  pub begun_whole : Whole (puzzle n rows columns) (table_in l')
-  begun_whole = record { whole = λ g d. held_fits (puzzle n rows columns) s l' (λ k w. (o.arcs k w).tallied) all_listed bare g d }
+  pub begun_stable : KeepsStable (puzzle n rows columns) every_candidate (table_in l')
+  begun_stable = record { keeps = λ t a _. stable_within (puzzle n rows columns) s l' (λ k w. (o.arcs k w).tallied) all_listed bare t a }

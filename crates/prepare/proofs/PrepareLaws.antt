@@ -10,7 +10,10 @@ use Rattle.rules.specs.CheckParts.{mark_checks}
 use Rattle.rules.specs.Mark.{marks_of}
 use Rattle.table.specs.Steps.{marked_all}
 use Rattle.settled.proofs.EmptyLaws.{empty_left}
-use Rattle.soundness.proofs.MarkLaws.{whole_same, marks_number, marks_kept}
+use Rattle.soundness.proofs.MarkLaws.{marks_number, marks_kept}
+use Rattle.soundness.proofs.GridStable.{stable_whole}
+use Rattle.soundness.proofs.StableLaws.{keeps_trans}
+use Rattle.soundness.specs.Greatest.{KeepsStable, every_candidate}
 use Rattle.soundness.specs.Marks.{Whole, AcceptedMark}
 use Rattle.soundness.proofs.MarkLaws as marks
 use Rattle.queue_state.specs.Slab.{table_in}
@@ -23,7 +26,7 @@ use Rattle.invariants.specs.State.{Kept, Lagging, Propagated}
 use Rattle.apply_marks.specs.Applied.{MarksApplied}
 use Rattle.prepare.specs.declared.Question.{Question}
 use Rattle.prepare.specs.Prepared.{Prepared}
-use Rattle.prepare.proofs.Begun.{begun_lagging, begun_kept, begun_whole}
+use Rattle.prepare.proofs.Begun.{begun_lagging, begun_kept, begun_stable}
 
 -- A puzzle and marks that are not refused, and blank memory.
 pub record PrepareAsk (p : Puzzle) (ms l : List ℕ) : Type 0 where
@@ -50,8 +53,11 @@ module _ {n : ℕ} {rows columns ms l₀ : List ℕ} (a : PrepareAsk (puzzle n r
       kept₁ = begun_kept prepare_size f o
 
       module _ {l₂ : List ℕ} {b : Bool} (d : Propagated n l₁ l₂ b) where
+        stable₂ : KeepsStable (puzzle n rows columns) every_candidate (table_in l₂)
+        stable₂ = keeps_trans (begun_stable prepare_size f o) (d.stable (puzzle n rows columns) refl kept₁)
+
         whole₂ : Whole (puzzle n rows columns) (table_in l₂)
-        whole₂ = whole_same (d.sound (puzzle n rows columns) refl kept₁) (begun_whole prepare_size f o)
+        whole₂ = stable_whole (puzzle n rows columns) prepare_size.high (table_in l₂) stable₂
 
         marks_in : (m : ℕ) → Memᴰ m ms → AcceptedMark n m
         marks_in = marks.accepted n ms a.marks
@@ -79,7 +85,11 @@ module _ {n : ℕ} {rows columns ms l₀ : List ℕ} (a : PrepareAsk (puzzle n r
                   lagging = m.lagging;
                   kept = m.kept (puzzle n rows columns) refl (d.kept t (puzzle n rows columns) refl kept₁);
                   before = l₂;
-                  whole = whole₂;
+                  rested = record {
+                    stable = stable₂;
+                    closed = d.closed t (puzzle n rows columns) refl kept₁;
+                    lone_set = d.lone_set t;
+                  };
                   table = m.table;
                 };
               }

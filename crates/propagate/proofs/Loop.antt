@@ -19,7 +19,7 @@ use Rattle.queue_state.proofs.ReadyLaws.{ready_grown, lag_pop}
 use Rattle.queue_state.specs.Ready.{Valid, Next}
 use Rattle.counters.proofs.CounterLaws.{next_valid}
 use Rattle.invariants.specs.State.{Occupied, Lagging, Propagated}
-use Rattle.propagate.proofs.FlowLaws.{flows_refl, flows_both}
+use Rattle.propagate.proofs.FlowLaws.{flows_refl, flows_both, grids_same}
 use Rattle.propagate.specs.Flow.{Flows}
 use Rattle.propagate.specs.Update.{UpdateAsk, UpdateDone}
 
@@ -85,7 +85,8 @@ module _ {n : ℕ} {l₀ l : List ℕ} {head : ℕ} (g : Propagating n l₀ l he
         record {
           size = g.size;
           sub = g.sub;
-          sound = λ p q k. (g.flows.flow p q k).1;
+          sound = λ p q k. grids_same l₀ l g.lagging.ready.size.high g.sub p q (g.flows.flow p q k).1;
+          stable = λ p q k. (g.flows.flow p q k).1;
           emptied = λ _. record {
             row = e / 16 / 9;
             column = e / 16 % 9;
@@ -96,6 +97,7 @@ module _ {n : ℕ} {l₀ l : List ℕ} {head : ℕ} (g : Propagating n l₀ l he
           lagging = λ f. absurd (true≢false (sym f));
           kept = λ f. absurd (true≢false (sym f));
           closed = λ f. absurd (true≢false (sym f));
+          lone_set = λ f. absurd (true≢false (sym f));
           filled = λ f. absurd (true≢false (sym f));
         }
       where

@@ -15,13 +15,15 @@ use Rattle.table.specs.Closed.{arrangements, Supported, Closed}
 use Rattle.rules.proofs.GridLaws.{in_line}
 use Rattle.table.specs.Table.{places, first_black, half}
 use Rattle.settled.specs.EmptyCell.{Empty}
-use Rattle.soundness.proofs.SameLaws.{same_trans, same_ext}
+use Rattle.soundness.specs.Greatest.{KeepsStable}
+use Rattle.propagate.proofs.FlowLaws.{grids_same}
+use Rattle.soundness.proofs.StableLaws.{keeps_trans, keeps_table}
 use Rattle.queue_state.specs.Layout.{tail_at, counters_at, slab_size}
 use Rattle.queue_state.specs.Slab.{cand, table_in, tail, lag, candidates_left}
 use Rattle.queue_state.proofs.SlabLaws.{cand_lt, cand_same}
 use Rattle.queue_state.proofs.ReadyLaws.{lag_rest}
 use Rattle.counters.specs.Counters.{Fam, Ruled, AllSet, NoBlacks, Halves, LinePlaces, Blacks, halves, line_places, cell_blacks}
-use Rattle.counters.proofs.Closure.{AtRest, lone, single, crossed, crossed_back, blacks}
+use Rattle.counters.proofs.Closure.{AtRest, lone, single, crossed, crossed_back, lone_set, blacks}
 use Rattle.arcs.specs.Arc.{lives, live}
 use Rattle.words.specs.Word.{arrangement_of}
 use Rattle.propagate.proofs.Supports.{Numbered, row_numbered, column_numbered, supported}
@@ -173,13 +175,18 @@ loop_end {n} {l₀} {l} {l'} {head} g stop is =
     let e = reset_tail l l' z is in
     let kept : (p : Puzzle) → p.size ≡ n → Kept p l₀ → Kept p l' =
     λ p q k. kept_same (shrunk l l' z is) (subst (λ m. m ≤ 9) (sym q) g.lagging.ready.size.high) (g.flows.flow p q k).0 in
+    let stable : (p : Puzzle) → p.size ≡ n → Kept p l₀ → KeepsStable p (table_in l₀) (table_in l') =
+    λ p q k. keeps_trans (g.flows.flow p q k).1 (keeps_table p (table_in l) (table_in l') (λ i j v. same_table l l' z is i j v)) in
+    let sub : (x v : ℕ) → v < 16 → cand l' x v ≤ cand l₀ x v = λ x v h. omega (arith, reset_cand l l' z is x v, g.sub x v h) in
     record {
       size = reset_size l l' z is ∙ g.size;
-      sub = λ x v h. omega (arith, reset_cand l l' z is x v, g.sub x v h);
-      sound = λ p q k. same_trans (g.flows.flow p q k).1 (same_ext p (subst (λ m. m ≤ 9) (sym q) g.lagging.ready.size.high) (λ i j v _ _ _. same_table l l' z is i j v));
+      sub = sub;
+      sound = λ p q k. grids_same l₀ l' g.lagging.ready.size.high sub p q (stable p q k);
+      stable = stable;
       emptied = λ f. absurd (true≢false f);
       lagging = λ _. r;
       kept = λ _. kept;
       closed = λ _ p q k. rest_closed e r p q (kept p q k);
+      lone_set = λ _. lone_set (at_rest e r);
       filled = λ _. rest_filled e r;
     }

@@ -13,7 +13,7 @@ pub record UpdateAsk (n : ℕ) (l : List ℕ) (r c v : ℕ) : Type 0 where
   pub once : (x w : ℕ) → w < 16 → lag l 0 x w ≤ 1
   pub counted : Counted n l head
 
--- What it gives: the counters with the strike handled, and no grid lost.
+-- What it gives: the counters with the strike handled, and nothing of a stable table lost.
 pub record UpdateDone (n : ℕ) (l l' : List ℕ) (r c v : ℕ) : Type 0 where
   pub grown : Grown l l'
   pub flows : Flows n l l'

@@ -1,7 +1,8 @@
 -- What the proofs of several functions use.
 pub mod GridValues
-pub mod Deductions
+pub mod GridStable
 pub mod MarkLaws
 pub mod Measures
 pub mod SameLaws
+pub mod StableLaws
 pub mod Taken

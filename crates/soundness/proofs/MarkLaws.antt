@@ -27,7 +27,7 @@ use Rattle.line_laws.specs.Grids.{GridOf}
 use Rattle.line_laws.proofs.CellValues.{half_every}
 use Rattle.table.specs.Value.{IsValue}
 use Rattle.soundness.proofs.SameLaws.{within_fits, count_grids}
-use Rattle.soundness.specs.SameGrids.{Within, SameGrids}
+use Rattle.soundness.specs.SameGrids.{Within}
 use Rattle.soundness.proofs.Taken.{strikes_here, taken_gone, struck_gone, taken_fits, struck_fits}
 use Rattle.soundness.specs.Marks.{AcceptedMark, Whole}
 
@@ -94,9 +94,6 @@ module _ (p : Puzzle) (small : p.size ≤ 9) where
       marks_fits (marked t m) ms (λ x k. a x (Memᴰ.tail k)) g d
       ∙ ap (λ b. b && all (keeps_mark p.size g) ms) (marked_fits t m (a m (Memᴰ.head refl)) g d)
       ∙ and_assoc (fits p.size t g) (keeps_mark p.size g m) (all (keeps_mark p.size g) ms)
-
-pub whole_same : {p : Puzzle} {t u : Table} → SameGrids p t u → Whole p t → Whole p u
-whole_same s w = record { whole = λ g d. sym (s.same g d) ∙ w.whole g d }
 
 module _ (p : Puzzle) (small : p.size ≤ 9) (t : Table) where
   module _ (ms : List ℕ) (a : (m : ℕ) → Memᴰ m ms → AcceptedMark p.size m) where

@@ -1,7 +1,7 @@
 -- Tables that the same grids fit, and candidates that none or each of those grids has. Assumes nothing.
 use Prim.Native.Nat.{ℕ, ◌*◌, ◌≤◌, ◌<◌}
 use mathlib.Core.Path.{◌≡◌, refl, sym, ap, ◌∙◌}
-use mathlib.Core.Bool.{Bool, true, false, ◌&&◌, true≢false}
+use mathlib.Core.Bool.{Bool, true, false, ◌&&◌}
 use mathlib.Core.List.{List}
 use Rattle.tally.specs.Tally.{count}
 use Rattle.tally.specs.Way.{Way}
@@ -13,7 +13,7 @@ use Rattle.table.specs.Table.{Table, fits, left}
 use Rattle.line_laws.specs.Grids.{GridOf}
 use Rattle.soundness.proofs.GridValues.{fits_has, has_fits}
 use Rattle.table.specs.Value.{IsValue}
-use Rattle.soundness.specs.SameGrids.{Within, SameGrids, Unused}
+use Rattle.soundness.specs.SameGrids.{Within, SameGrids}
 
 -- ---- smaller tables
 
@@ -24,9 +24,6 @@ pub within_trans : {n : ℕ} {s u t : Table} → Within n s u → Within n u t �
 within_trans a b = record { kept = λ r c v hr hc m e. b.kept r c v hr hc m (a.kept r c v hr hc m e) }
 
 -- ---- tables with the same grids
-
-pub same_refl : (p : Puzzle) (t : Table) → SameGrids p t t
-same_refl p t = record { same = λ g d. refl }
 
 pub same_trans : {p : Puzzle} {s t u : Table} → SameGrids p s t → SameGrids p t u → SameGrids p s u
 same_trans a b = record { same = λ g d. a.same g d ∙ b.same g d }
@@ -52,21 +49,6 @@ module _ (p : Puzzle) (small : p.size ≤ 9) where
   -- What fits a smaller table fits the table.
   pub within_fits : {u t : Table} → Within p.size u t → (g : List ℕ) → GridOf p g → fits p.size u g ≡ true → fits p.size t g ≡ true
   within_fits {u} {t} w g d f = has_fits p small g d t (λ r c v hr hc m s. w.kept r c v hr hc m (fits_has p small g d u f r c v hr hc m s))
-
-  -- Striking unused candidates loses no grid.
-  pub shrunk_same : {u t : Table} → Within p.size u t →
-      ((r c v : ℕ) → r < p.size → c < p.size → IsValue p.size v → t r c v ≡ true → u r c v ≡ false → Unused p t r c v) → SameGrids p t u
-  shrunk_same {u} {t} w a =
-      record {
-        same = λ g d. test_ext (fits p.size t g) (fits p.size u g)
-            (λ f. has_fits p small g d u (λ r c v hr hc m s. let e = fits_has p small g d t f r c v hr hc m s in
-            go (u r c v) refl (λ z. absurd (true≢false (sym s ∙ (a r c v hr hc m e z).unused g d f)))))
-            (within_fits w g d);
-      }
-    where
-      go : (b : Bool) {x : Bool} → x ≡ b → (x ≡ false → x ≡ true) → x ≡ true
-      go true e f = e
-      go false e f = f e
 
   -- Tables with the same candidates have the same grids.
   pub same_ext : {t u : Table} → ((r c v : ℕ) → r < p.size → c < p.size → IsValue p.size v → t r c v ≡ u r c v) → SameGrids p t u

@@ -24,7 +24,7 @@ use Rattle.soundness.proofs.GridValues.{value_at, has_at, by_line, has_own, valu
 use Rattle.line_laws.proofs.CellValues.{CellValue, digit_value, row_black, column_black, cell_value, half_every}
 use Rattle.table.specs.Value.{IsValue, InHalf}
 use Rattle.soundness.proofs.SameLaws.{within_fits, count_grids}
-use Rattle.soundness.specs.SameGrids.{Within, SameGrids, Forced}
+use Rattle.soundness.specs.SameGrids.{Within}
 
 -- ---- what setting a cell strikes
 
@@ -132,7 +132,7 @@ module _ (p : Puzzle) (small : p.size ≤ 9) (g : List ℕ) (d : GridOf p g) (v 
       first_before p small g d ℓ h a ha (has_black p small g d (row_of ℓ a) (column_of ℓ a) q.0 q.1 v m high s) b lt
       (subst (λ x. has_at p.size g ℓ b x ≡ true) e u)
 
-  strikes_has : (r c i j w : ℕ) → r < p.size → c < p.size → i < p.size → j < p.size → IsValue p.size v → IsValue p.size w →
+  pub strikes_has : (r c i j w : ℕ) → r < p.size → c < p.size → i < p.size → j < p.size → IsValue p.size v → IsValue p.size w →
       has p.size g r c v ≡ true → strikes r c v i j w ≡ true → has p.size g i j w ≡ false
   unfolding index first_black row_of column_of
   strikes_has r c i j w hr hc hi hj mv mw s t =
@@ -233,13 +233,6 @@ module _ (p : Puzzle) (small : p.size ≤ 9) (t : Table) (r c v : ℕ) (hr : r <
       let y = and_right (eqb i r) _ q in
       let e : has n g r c v ≡ true = rw (eqb-true i r (and_left _ _ q), eqb-true j c (and_left _ _ y), eqb-true w v (and_right (eqb j c) _ y)) at s in
       true≢false (sym e ∙ not-true (has n g r c v) (and_right (fits n t g) _ f)))))))
-
-  pub taken_same : Forced p t r c v → SameGrids p t (taken t r c v)
-  taken_same a =
-      record {
-        same = λ g d. test_ext (fits p.size t g) (fits p.size (taken t r c v) g) (λ f. taken_fits g d ∙ and_both f (a.forced g d f))
-            (within_fits p small (taken_within p.size t r c v) g d);
-      }
 
   -- A branch shares the grids out: those with the value, and those without.
   pub branch_left : left p t ≡ left p (taken t r c v) + left p (struck t r c v)

@@ -1,2 +1,3 @@
 pub mod SameGrids
 pub mod Marks
+pub mod Greatest

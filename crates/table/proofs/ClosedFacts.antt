@@ -62,8 +62,8 @@ pub record ClosedFacts : Type 0 where
   -- the arrangement of row 0 is live in the settled table, and no longer after the right black of its end cell is struck
   pub alive : Live 3 left_black (places settled (across 0)) between
   pub dead : Live 3 left_black (places (struck settled 0 2 right_black) (across 0)) between → ⊥
-  -- two cells between the ends with digit 2 alone: digit 1 of an end cell does not keep the arrangement alive, and that of a cell between does, after the line's
-  -- end too
+  -- Two cells between the ends, of which one or both have digit 2 alone. Digit 1 of an end cell does not keep the arrangement alive, and that of a cell between
+  -- does, behind the line's end too.
   pub inner_digit : Live 4 left_black (places (table_of 4 (8 ∷ 6 ∷ 4 ∷ 16 ∷ [])) (across 0)) pair_between
   pub end_digit : Live 4 left_black (places (table_of 4 (10 ∷ 4 ∷ 4 ∷ 18 ∷ [])) (across 0)) pair_between → ⊥
   pub wrapped_digit : Live 4 left_black (places (table_of 4 (6 ∷ 8 ∷ 16 ∷ 4 ∷ [])) (across 0)) pair_around
@@ -83,7 +83,8 @@ pub record ClosedFacts : Type 0 where
   -- Column 0: digit 1 has its only place in row 1, where digits 2 and 3 are candidates too. (A search outside the proofs found no table of size 3 or 4 without
   -- an empty cell that fails here only.)
   pub single_not :
-      Wrong five (table_of 5 (88 ∷ 82 ∷ 4 ∷ 98 ∷ 104 ∷ 14 ∷ 86 ∷ 112 ∷ 102 ∷ 14 ∷ 208 ∷ 6 ∷ 8 ∷ 6 ∷ 224 ∷ 12 ∷ 144 ∷ 2 ∷ 160 ∷ 12 ∷ 152 ∷ 14 ∷ 176 ∷ 14 ∷ 168 ∷ [])) (true ∷ true ∷ false ∷ true ∷ true ∷ [])
+      Wrong five
+      (table_of 5 (88 ∷ 82 ∷ 4 ∷ 98 ∷ 104 ∷ 14 ∷ 86 ∷ 112 ∷ 102 ∷ 14 ∷ 208 ∷ 6 ∷ 8 ∷ 6 ∷ 224 ∷ 12 ∷ 144 ∷ 2 ∷ 160 ∷ 12 ∷ 152 ∷ 14 ∷ 176 ∷ 14 ∷ 168 ∷ [])) (true ∷ true ∷ false ∷ true ∷ true ∷ [])
   -- row 2: columns 0 and 1 have a lower black and no black of the row
   pub blacks_not : Wrong (three 1 0 0 1 0 0) (table_of 3 (20 ∷ 2 ∷ 24 ∷ 2 ∷ 20 ∷ 40 ∷ 32 ∷ 32 ∷ 0 ∷ [])) (true ∷ true ∷ true ∷ false ∷ true ∷ [])
   -- the closed table with choices left, and one candidate more: the upper black of row 2 and column 0, which lies in no arrangement

@@ -1,5 +1,6 @@
--- Tests that decide `Live` and `Closed`, and facts computed with them.
+-- Tests that decide `Live`, `Closed` and `Stable`, and facts computed with them.
 pub mod Decides
 pub mod ClosedTest
 pub mod ClosedFacts
+mod StableFacts
 mod TableFacts

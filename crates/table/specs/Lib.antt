@@ -4,3 +4,4 @@ pub mod Steps
 pub mod Reading
 pub mod Value
 pub mod Lines
+pub mod Stable

@@ -12,8 +12,8 @@ pub fn is_closed(size: usize, rows: &[u8], columns: &[u8], table: &[u16]) -> boo
         && has_support(size, &lines, table)
 }
 
-/// A half with one candidate left: that candidate is nowhere else in that line, and a
-/// digit is nowhere else in both lines.
+/// What is alone in its half occurs nowhere else along the line, and a digit nowhere
+/// else along either line.
 fn lone_halves(size: usize, line: &Line, table: &[u16]) -> bool {
     line.places.iter().all(|&place| {
         let alone = table[place] & line.half;
@@ -31,8 +31,7 @@ fn through(size: usize, place: usize) -> impl Iterator<Item = usize> {
     (0..size * size).filter(is_in_line)
 }
 
-/// A candidate with one place left in a line: that place's half of that line has no
-/// other.
+/// Where a value fits one cell of a line only, nothing else of that half is left there.
 fn single_places(size: usize, line: &Line, table: &[u16]) -> bool {
     let entries = line.of(table);
     let candidates = (0..size + 3).map(|bit| 1 << bit);
@@ -47,13 +46,14 @@ fn single_places(size: usize, line: &Line, table: &[u16]) -> bool {
         })
 }
 
-/// A cell without row blacks has no column blacks, and the reverse.
+/// Row blacks are possible exactly where column blacks are.
 fn blacks_agree(size: usize, entry: u16) -> bool {
     let has_one = |blacks: [u16; 2]| blacks.iter().any(|black| entry & black != 0);
     has_one(row_blacks(size)) == has_one(column_blacks(size))
 }
 
-/// Each candidate lies in some live arrangement of its line, a digit in one of both.
+/// Whatever a cell can be belongs to a live arrangement of the line, a digit to one of
+/// each line.
 fn has_support(size: usize, lines: &[Line], table: &[u16]) -> bool {
     let supported = supported(size, lines, table);
     table

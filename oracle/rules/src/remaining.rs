@@ -49,7 +49,7 @@ pub fn strike_all(size: usize, lines: &[Line], table: &mut [u16]) {
     }
 }
 
-/// A half with one candidate left: the cell is set to it.
+/// Where something is alone in its half, the cell is set to it.
 fn settle_lone_halves(size: usize, line: &Line, table: &mut [u16]) {
     for &place in &line.places {
         let alone = table[place] & line.half;
@@ -59,7 +59,7 @@ fn settle_lone_halves(size: usize, line: &Line, table: &mut [u16]) {
     }
 }
 
-/// A candidate with one place left in a line: that cell is set to it.
+/// Where a value fits one cell of a line only, that cell is set to it.
 fn settle_single_places(size: usize, line: &Line, table: &mut [u16]) {
     let candidates = (0..size + 3).map(|bit| 1 << bit);
     for candidate in candidates.filter(|candidate| candidate & line.half != 0) {
@@ -71,7 +71,7 @@ fn settle_single_places(size: usize, line: &Line, table: &mut [u16]) {
     }
 }
 
-/// A cell without row blacks has no column blacks, and the reverse.
+/// Blacks of one line go where the other line's cannot stand.
 fn strike_blacks(size: usize, entry: &mut u16) {
     let [left, right] = row_blacks(size);
     let [upper, lower] = column_blacks(size);
