@@ -1,5 +1,4 @@
 -- Facts computed from `Remaining`.
 mod RemainingFacts
-pub mod OneTable
 mod RemainingLaws
 mod SameClosed

@@ -2,4 +2,5 @@ pub mod Acceptance
 pub mod CountLaws
 pub mod VerdictLaws
 pub mod SheetLaws
+pub mod TableLaws
 pub mod UnitLaws

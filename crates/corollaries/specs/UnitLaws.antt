@@ -19,7 +19,7 @@ use Rattle.engine.proofs.SolveLaws.{solve_asked}
 use Rattle.candidates.specs.declared.Outcome.{Outcome}
 use Rattle.candidates.specs.declared.Outcome.TheVariants.{Contradicted, Written}
 use Rattle.candidates.specs.Remaining.{WrittenTable, TableGiven}
-use Rattle.candidates.proofs.OneTable.{one_written}
+use Rattle.corollaries.specs.TableLaws.{one_written}
 
 -- Target sums: the same number, and the same bytes in both target slices.
 pub same_sums : (u v : Unit) (n : ℕ) → takes_size u n ≡ true → takes_size v n ≡ true → (cells rows columns : List ℕ) →

@@ -1,10 +1,8 @@
--- Where a grid is left, there is one table that Candidates may write. Assumes nothing.
-use Prim.Native.Nat.{ℕ, ◌<◌}
-use mathlib.Core.Path.{◌≡◌, sym, ap, ◌∙◌, subst}
-use mathlib.Core.Bool.{true}
-use mathlib.Core.List.{List}
-use native.Mathlib.Omega.{arith}
-use native.Mathlib.Decide.{ℕ_discrete}
+-- Where a grid is left, there is one table that Candidates may write, whatever the order in which it strikes. Assumes nothing.
+use Rattle.std.specs.Prelude.{ℕ, ◌<◌, ◌≡◌, true, List}
+use Rattle.std.proofs.Math.Path.{sym, ap, subst}
+use Rattle.std.proofs.Common.{◌∙◌, arith}
+use Rattle.std.proofs.Math.Decide.{ℕ_discrete}
 use borrow.Author.Tests.{eqb-true, eq-eqb}
 use Rattle.tally.proofs.TallyLaws.{test_ext}
 use Rattle.bits.specs.Bit.{bit}
@@ -27,7 +25,7 @@ same_bits x y f = bits_same x y (λ b. each b (ℕ_discrete (bit b x) 1) (ℕ_di
     each b (no d) (yes e) = absurd (d (eqb-true (bit b x) 1 (f b ∙ eq-eqb (bit b y) 1 e)))
     each b (no d) (no e) = omega (arith, bit_lt b x, bit_lt b y)
 
--- The masks of two such tables are equal.
+-- Two tables that keep its promise have equal masks.
 pub one_written : (p : Puzzle) (ms a b : List ℕ) → 0 < number p ms → WrittenTable p ms a → WrittenTable p ms b → a ≡ b
 unfolding table_of
 one_written p ms a b h x y =
