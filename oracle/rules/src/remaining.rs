@@ -88,27 +88,15 @@ fn strike_blacks(size: usize, entry: &mut u16) {
 /// its column's second blacks before it and none of the first ones behind it.
 pub fn set(size: usize, table: &mut [u16], place: usize, value: u16) {
     let (row, column) = (place / size, place % size);
-    for other in (0..size).filter(|&other| other != column) {
-        let struck = struck_beside(
-            size,
-            value,
-            row_half(size),
-            row_blacks(size),
-            other < column,
-        );
-        table[row * size + other] &= !struck;
-    }
-    for other in (0..size).filter(|&other| other != row) {
-        let struck = struck_beside(
-            size,
-            value,
-            column_half(size),
-            column_blacks(size),
-            other < row,
-        );
-        table[other * size + column] &= !struck;
-    }
-    for half in [row_half(size), column_half(size)] {
+    // Each line through the cell: its first place and its step, where the cell is in it,
+    // its half and its blacks.
+    let across = (row * size, 1, column, row_half(size), row_blacks(size));
+    let down = (column, size, row, column_half(size), column_blacks(size));
+    for (first, step, at, half, blacks) in [across, down] {
+        for other in (0..size).filter(|&other| other != at) {
+            let struck = struck_beside(size, value, half, blacks, other < at);
+            table[first + other * step] &= !struck;
+        }
         if half & value != 0 {
             table[place] &= value | !half;
         }
