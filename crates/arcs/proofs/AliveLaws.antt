@@ -2,6 +2,7 @@
 use Prim.Native.Nat.{ℕ, ◌+◌, ◌*◌, ◌≤◌, ◌<◌}
 use mathlib.Core.Path.{◌≡◌, refl, sym, ap, ◌∙◌, subst}
 use mathlib.Core.Bool.{Bool, true}
+use mathlib.Core.Logic.{◌⊎◌, inl, inr, ⊎_elim}
 use mathlib.Core.List.{List}
 use native.Mathlib.Omega.{arith}
 use native.Mathlib.Decide.{ℕ_discrete, dec_lt}
@@ -15,7 +16,7 @@ use Rattle.queue_state.proofs.StruckLaws.{grown_refl, grown_trans, grown_gone}
 use Rattle.queue_state.proofs.ReadyLaws.{lag_pop}
 use Rattle.queue_state.specs.Ready.{Next}
 use Rattle.words.specs.Word.{Known, word_of, part}
-use Rattle.arcs.specs.Arc.{lives, live, support, Tallied, Served, Placed, Alive, DeadArrangement, Held, Backs, Holding}
+use Rattle.arcs.specs.Arc.{lives, live, support, Tallied, Serves, Alive, DeadArrangement, Held, Backs, Holding}
 use Rattle.table.specs.Value.{HalfOf}
 use Rattle.table.specs.Lines.{cell_at, black_at}
 use Rattle.lane.proofs.LaneLaws.{cell_row, cell_column}
@@ -31,17 +32,17 @@ cell_once ℓ p q e =
 
 -- ---- alive
 
+-- what serves it does so by its lag alone
+serves_lag : {n ℓ id h h' : ℕ} {l l' : List ℕ} {Q : ℕ → ℕ → Type 0} (s : Serves n ℓ l h id Q) → 1 ≤ lag l' h' (cell_at ℓ s.at) s.value → Serves n ℓ l' h' id Q
+serves_lag s b = record { at = s.at; value = s.value; within = s.within; narrow = s.narrow; asked = s.asked; allowed = s.allowed; lags = b }
+
 -- equal lags leave it alive
 pub alive_lags : (n ℓ id h h' : ℕ) {l l' : List ℕ} → ((x v : ℕ) → v < 16 → lag l' h' x v ≡ lag l h x v) → Alive n ℓ l h id → Alive n ℓ l' h' id
-alive_lags n ℓ id h h' e f =
-    record {
-      served = λ p v hp hv a.
-          let s = f.served p v hp hv a in
-          record { value = s.value; narrow = s.narrow; allowed = s.allowed; lags = omega (arith, s.lags, e (cell_at ℓ p) s.value s.narrow) };
-      placed = λ p d hp hd a.
-          let s = f.placed p d hp hd a in
-          record { at = s.at; within = s.within; allowed = s.allowed; lags = omega (arith, s.lags, e (cell_at ℓ s.at) d (omega arith)) };
-    }
+alive_lags n ℓ id h h' {l} {l'} e f =
+    record { served = λ p v hp hv a. still (f.served p v hp hv a); placed = λ p d hp hd a. still (f.placed p d hp hd a) }
+  where
+    still : {Q : ℕ → ℕ → Type 0} → Serves n ℓ l h id Q → Serves n ℓ l' h' id Q
+    still s = serves_lag s (omega (arith, s.lags, e (cell_at ℓ s.at) s.value s.narrow))
 
 -- strikes leave it alive
 pub alive_kept : (n ℓ id h : ℕ) {l l' : List ℕ} → Grown l l' → h ≤ tail l → Alive n ℓ l h id → Alive n ℓ l' h id
@@ -51,45 +52,33 @@ alive_kept n ℓ id h g b f = alive_lags n ℓ id h h (λ x v k. g.lags h x v b 
 pub alive_next : {n ℓ id : ℕ} {l : List ℕ} {h x v : ℕ} → Next l h x v → v < 16 → ((q : ℕ) → q < n → x ≡ cell_at ℓ q → Outlives n ℓ l q v id) →
     Alive n ℓ l h id → Alive n ℓ l (h + 1) id
 unfolding lag
-alive_next {n} {ℓ} {id} {l} {h} {x} {v} nx hv k f = record { served = served; placed = placed }
+alive_next {n} {ℓ} {id} {l} {h} {x} {v} nx hv k f =
+    record {
+      served = λ p u hp hu e. next (λ q w o y. inl y) (f.served p u hp hu e);
+      placed = λ p d hp hd e. next (λ q w o y. inr y) (f.placed p d hp hd e);
+    }
   where
-    -- the strike is another one
-    waits : (p u : ℕ) → (cell_at ℓ p * 16 + u ≡ x * 16 + v → ⊥) → 1 ≤ lag l h (cell_at ℓ p) u → 1 ≤ lag l (h + 1) (cell_at ℓ p) u
-    waits p u d b = omega (arith, b, lag_pop nx (cell_at ℓ p) u, same_no (cell_at ℓ p * 16 + u) (x * 16 + v) d)
-
-    -- the strike is of a value that the arrangement has not there
-    other : (p u : ℕ) → part (black_at ℓ) (word_of n id) p v ≡ 0 → part (black_at ℓ) (word_of n id) p u ≡ 1 → u < 16 → cell_at ℓ p * 16 + u ≡ x * 16 + v → ⊥
-    other p u z e b q = let c : u ≡ v = omega arith in omega (arith, ap (part (black_at ℓ) (word_of n id) p) c)
-
-    served : (p u : ℕ) → p < n → u < 16 → part (black_at ℓ) (word_of n id) p u ≡ 1 → Served n ℓ l (h + 1) id p
-    served p u hp hu e = go (f.served p u hp hu e) (ℕ_discrete x (cell_at ℓ p))
+    -- where v goes at place p, what is asked holds of another value there, or of v at another place
+    next : {Q : ℕ → ℕ → Type 0} → ((p u q : ℕ) → Q p v → Q p u ⊎ Q q v) → Serves n ℓ l h id Q → Serves n ℓ l (h + 1) id Q
+    next {Q} again s = go (ℕ_discrete x (cell_at ℓ s.at)) (ℕ_discrete s.value v)
       where
-        still : (s : Served n ℓ l h id p) → (cell_at ℓ p * 16 + s.value ≡ x * 16 + v → ⊥) → Served n ℓ l (h + 1) id p
-        still s d = record { value = s.value; narrow = s.narrow; allowed = s.allowed; lags = waits p s.value d s.lags }
+        still : (cell_at ℓ s.at * 16 + s.value ≡ x * 16 + v → ⊥) → Serves n ℓ l (h + 1) id Q
+        still d =
+            serves_lag s
+            (omega (arith, s.lags, lag_pop nx (cell_at ℓ s.at) s.value, same_no (cell_at ℓ s.at * 16 + s.value) (x * 16 + v) d))
 
-        kept : Served n ℓ l h id p → Outlives n ℓ l p v id → Served n ℓ l (h + 1) id p
-        kept s (untouched z) = still s (other p s.value z s.allowed s.narrow)
-        kept s (backed w q a b c _ _ _) = record { value = w; narrow = a; allowed = b; lags = omega arith }
+        kept : s.value ≡ v → Outlives n ℓ l s.at v id → Serves n ℓ l (h + 1) id Q
+        kept e (untouched z) = absurd (omega (arith, s.allowed, ap (part (black_at ℓ) (word_of n id) s.at) e))
+        kept e (backed u q a b c hq t o) =
+            ⊎_elim
+            (λ y. record { at = s.at; value = u; within = s.within; narrow = a; asked = y; allowed = b; lags = omega arith })
+            (λ y. record { at = q; value = v; within = hq; narrow = hv; asked = y; allowed = t; lags = omega arith })
+            (again s.at u q (subst (Q s.at) e s.asked))
 
-        go : Served n ℓ l h id p → Dec (x ≡ cell_at ℓ p) → Served n ℓ l (h + 1) id p
-        go s (yes d) = kept s (k p hp d)
-        go s (no d) = still s (λ q. d (omega (arith, s.narrow)))
-
-    placed : (p d : ℕ) → p < n → d < 8 → part (black_at ℓ) (word_of n id) p d ≡ 1 → Placed n ℓ l (h + 1) id d
-    placed p d hp hd e = let s = f.placed p d hp hd e in go s (ℕ_discrete x (cell_at ℓ s.at)) (ℕ_discrete d v)
-      where
-        still : (s : Placed n ℓ l h id d) → (cell_at ℓ s.at * 16 + d ≡ x * 16 + v → ⊥) → Placed n ℓ l (h + 1) id d
-        still s o = record { at = s.at; within = s.within; allowed = s.allowed; lags = waits s.at d o s.lags }
-
-        kept : (s : Placed n ℓ l h id d) → d ≡ v → Outlives n ℓ l s.at v id → Placed n ℓ l (h + 1) id d
-        kept s q (untouched z) = still s (other s.at d z s.allowed (omega arith))
-        kept s q (backed w o _ _ _ a b c) =
-            subst (Placed n ℓ l (h + 1) id) (sym q) (record { at = o; within = a; allowed = b; lags = omega arith })
-
-        go : (s : Placed n ℓ l h id d) → Dec (x ≡ cell_at ℓ s.at) → Dec (d ≡ v) → Placed n ℓ l (h + 1) id d
-        go s (yes o) (yes q) = kept s q (k s.at s.within o)
-        go s (yes o) (no q) = still s (λ e. q (omega arith))
-        go s (no o) _ = still s (λ e. o (omega arith))
+        go : Dec (x ≡ cell_at ℓ s.at) → Dec (s.value ≡ v) → Serves n ℓ l (h + 1) id Q
+        go (yes d) (yes e) = kept e (k s.at s.within d)
+        go (yes d) (no e) = still (λ q. e (omega arith))
+        go (no d) _ = still (λ q. d (omega (arith, s.narrow)))
 
 -- ---- a line that is as it was
 

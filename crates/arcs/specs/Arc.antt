@@ -34,24 +34,28 @@ pub record Tallied (n ℓ len : ℕ) (l : List ℕ) : Type 0 where
   pub supports : (p v : ℕ) → p < 9 → v < 16 → support l (ℓ * 9 + p) v ≡ sum_over 0 len (λ (j : ℕ). part (black_at ℓ) (word_of n (live l ℓ j)) p v)
   pub backed : (p v : ℕ) → p < n → v < 16 → HalfOf (black_at ℓ) v → support l (ℓ * 9 + p) v ≡ 0 → cand l (cell_at ℓ p) v ≡ 0
 
--- Place p has a value of the arrangement's pattern that is a candidate, or whose strike waits from h on.
-pub record Served (n ℓ : ℕ) (l : List ℕ) (h id p : ℕ) : Type 0 where
-  pub value : ℕ
-  pub narrow : value < 16
-  pub allowed : part (black_at ℓ) (word_of n id) p value ≡ 1
-  pub lags : 1 ≤ lag l h (cell_at ℓ p) value
-
--- An inner place of the arrangement has the digit d as a candidate, or its strike there waits from h on.
-pub record Placed (n ℓ : ℕ) (l : List ℕ) (h id d : ℕ) : Type 0 where
+-- The arrangement has a value at a place, both as Q asks, where it is a candidate, or its strike waits from h on.
+pub record Serves (n ℓ : ℕ) (l : List ℕ) (h id : ℕ) (Q : ℕ → ℕ → Type 0) : Type 0 where
   pub at : ℕ
+  pub value : ℕ
   pub within : at < n
-  pub allowed : part (black_at ℓ) (word_of n id) at d ≡ 1
-  pub lags : 1 ≤ lag l h (cell_at ℓ at) d
+  pub narrow : value < 16
+  pub asked : Q at value
+  pub allowed : part (black_at ℓ) (word_of n id) at value ≡ 1
+  pub lags : 1 ≤ lag l h (cell_at ℓ at) value
 
--- Each place that the arrangement covers is served, and each digit of its set is placed.
+-- Place p, with any value.
+abbrev pub AtPlace : ℕ → ℕ → ℕ → Type 0
+AtPlace p at value = at ≡ p
+
+-- The value d, at any place.
+abbrev pub OfValue : ℕ → ℕ → ℕ → Type 0
+OfValue d at value = value ≡ d
+
+-- Each place that the arrangement covers is served, and each digit of its set at one of its inner places.
 pub record Alive (n ℓ : ℕ) (l : List ℕ) (h id : ℕ) : Type 0 where
-  pub served : (p v : ℕ) → p < n → v < 16 → part (black_at ℓ) (word_of n id) p v ≡ 1 → Served n ℓ l h id p
-  pub placed : (p d : ℕ) → p < n → d < 8 → part (black_at ℓ) (word_of n id) p d ≡ 1 → Placed n ℓ l h id d
+  pub served : (p v : ℕ) → p < n → v < 16 → part (black_at ℓ) (word_of n id) p v ≡ 1 → Serves n ℓ l h id (AtPlace p)
+  pub placed : (p d : ℕ) → p < n → d < 8 → part (black_at ℓ) (word_of n id) p d ≡ 1 → Serves n ℓ l h id (OfValue d)
 
 -- Line ℓ at h: all strikes before h are handled.
 pub record Arc (n ℓ : ℕ) (l : List ℕ) (h : ℕ) : Type 0 where

@@ -1,6 +1,6 @@
 -- The opened state: listing leaves the table and the queue, and seeding leaves lists and supports. Assumes nothing.
 use Prim.Native.Nat.{ℕ, suc, ◌+◌, ◌-◌, ◌*◌, ◌/◌, ◌%◌, ◌≤◌, ◌<◌}
-use mathlib.Core.Path.{◌≡◌, sym, ap, ◌∙◌}
+use mathlib.Core.Path.{◌≡◌, refl, sym, ap, ◌∙◌}
 use mathlib.Core.Logic.{◌⊎◌, inl, inr, ⊎_elim}
 use mathlib.Core.List.{List}
 use native.Mathlib.Omega.{arith}
@@ -24,7 +24,7 @@ use Rattle.words.specs.Word.{mask_in, Known, set_of, inner_of, word_of, part}
 use Rattle.words.proofs.WordFacts.{mask_even}
 use Rattle.words.proofs.WordLaws.{known_subset, known_fields}
 use Rattle.words.proofs.PatternLaws.{part_digit, part_other}
-use Rattle.arcs.specs.Arc.{lives, live, support, Tallied, Alive, Unsupported}
+use Rattle.arcs.specs.Arc.{lives, live, support, Tallied, Serves, Alive, Unsupported}
 use Rattle.table.specs.Lines.{cell_at, black_at, LineOf}
 use Rattle.listing.specs.Listing.{Lists, target_at, LinesListed}
 use Rattle.arcs.proofs.KillLaws.{black_low, black_high}
@@ -161,14 +161,23 @@ module _ {n : ℕ} {rows columns l l₁ : List ℕ} (a : Listable n rows columns
     alive : (ℓ : ℕ) → LineOf n ℓ → (j : ℕ) → j < lives l₂ ℓ → Alive n ℓ l₂ 0 (live l₂ ℓ j)
     alive ℓ o j i =
         record {
-          served = λ p v h k e. record { value = v; narrow = k; allowed = e; lags = there p v h k e };
-          placed = λ p d h k e. record { at = p; within = h; allowed = e; lags = there p d h (omega arith) e };
+          served = λ p v h k e. there p v refl h k e;
+          placed = λ p d h k e. there p d refl h (omega arith) e;
         }
       where
-        there : (p v : ℕ) → p < n → v < 16 → part (black_at ℓ) (word_of n (live l₂ ℓ j)) p v ≡ 1 → 1 ≤ lag l₂ 0 (cell_at ℓ p) v
-        there p v h k e =
+        there : {Q : ℕ → ℕ → Type 0} → (p v : ℕ) → Q p v → p < n → v < 16 → part (black_at ℓ) (word_of n (live l₂ ℓ j)) p v ≡ 1 →
+            Serves n ℓ l₂ 0 (live l₂ ℓ j) Q
+        there p v q h k e =
             let w = part_value n ℓ (live l₂ ℓ j) p v a.size ((lists ℓ o).known j i) e in
-            omega (arith, lags (cell_at ℓ p) v k (valid ℓ p v o h w))
+            record {
+              at = p;
+              value = v;
+              within = h;
+              narrow = k;
+              asked = q;
+              allowed = e;
+              lags = omega (arith, lags (cell_at ℓ p) v k (valid ℓ p v o h w));
+            }
 
     -- what seeding strikes lies in no live arrangement of one of its lines
     unsupported : (x v : ℕ) → BareTo l₁ n n x v → Unsupported n l₂ x v

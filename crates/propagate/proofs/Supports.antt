@@ -22,7 +22,7 @@ use Rattle.words.proofs.PatternLaws.{part_lt, part_yes, part_pattern, pattern_be
 use Rattle.words.proofs.WordLaws.{known_fits, known_steps, known_shaped}
 use Rattle.words.proofs.Arranged.{known_length, place_in, steps_place, pattern_allows, allows_some, digits_narrow}
 use Rattle.arcs.proofs.KillLaws.{black_low, black_high}
-use Rattle.arcs.specs.Arc.{lives, live, Placed, Alive, Arc}
+use Rattle.arcs.specs.Arc.{lives, live, Serves, OfValue, Alive, Arc}
 use Rattle.table.specs.Value.{HalfOf}
 use Rattle.table.specs.Lines.{cell_at, black_at}
 use Rattle.line_laws.proofs.Arranged.{allows_mid, digit_mid}
@@ -106,12 +106,14 @@ module _ (n k id : ℕ) (z : Size n) (y : Known n id) where
           let p = place n (arrangement_of n id) j in
           let u = allows_some n id z y (black_at k) j (omega (arith, black_high k)) b in
           let s = a.served p u.0 (place_at j b) u.1 (part_yes (black_at k) (word_of n id) p u.0 (allowed j u.0 b ∙ u.2)) in
-          (s.value, has p s.value s.lags, sym (allowed j s.value b) ∙ part_pattern (black_at k) (word_of n id) p s.value s.allowed)
+          (s.value, ap (λ q. places (table_in l) ℓ q s.value) (sym s.asked) ∙ has s.at s.value s.lags,
+          sym (allowed j s.value b) ∙ ap (λ q. pattern (black_at k) (word_of n id) q s.value) (sym s.asked)
+          ∙ part_pattern (black_at k) (word_of n id) s.at s.value s.allowed)
 
       -- a digit of the set may stand next to the head, so it is placed, and between the ends
       inner : (d : ℕ) → Memᴰ d (arrangement_of n id).digit_set →
           (j : ℕ) × (0 < j) × (j < length (arrangement_of n id).digit_set + 1) × (places (table_in l) ℓ (place n (arrangement_of n id) j) d ≡ true)
-      inner d m = (c.step, mid.0, mid.1, ap (λ p. places (table_in l) ℓ p d) c.there ∙ has s.at d s.lags)
+      inner d m = (c.step, mid.0, mid.1, ap (λ p. places (table_in l) ℓ p d) c.there ∙ ap (places (table_in l) ℓ s.at) (sym s.asked) ∙ has s.at s.value s.lags)
         where
           narrow : d < 8
           narrow = digits_narrow (mask_in (id / 9)) d m
@@ -119,13 +121,13 @@ module _ (n k id : ℕ) (z : Size n) (y : Known n id) where
           next : 1 < length (arrangement_of n id).digit_set + 1
           next = let x = mem_place m in omega (arith, x.1)
 
-          s : Placed n k l h id d
+          s : Serves n k l h id (OfValue d)
           s = a.placed (place n (arrangement_of n id) 1) d (place_at 1 (omega (arith, next, known_length n id z y))) narrow
               (part_yes (black_at k) (word_of n id) (place n (arrangement_of n id) 1) d
               (allowed 1 d (omega (arith, next, known_length n id z y)) ∙ allows_mid (black_at k) (arrangement_of n id) d 1 (omega arith) next ∙ any_mem m))
 
           c : Covers n (black_at k) (arrangement_of n id) s.at d
-          c = part_covers s.at d s.within s.allowed
+          c = part_covers s.at d s.within (ap (part (black_at k) (word_of n id) s.at) (sym s.asked) ∙ s.allowed)
 
           mid : (0 < c.step) × (c.step < length (arrangement_of n id).digit_set + 1)
           mid = digit_mid (black_at k) (arrangement_of n id) c.step d (omega (arith, narrow, black_low k)) c.within c.allowed
