@@ -6,8 +6,8 @@ use rules::{BLACK, LinePuzzle};
 /// What an answer with a grid begins with if there are others.
 pub const MULTIPLE: &str = "multiple ";
 
-/// Reads lines to the end of the input and writes one answer for each. The last
-/// line may lack its line end.
+/// Reads lines to the end of the input and writes one answer for each, also for a last
+/// one that has no line end.
 pub fn answer_lines(mut input: impl BufRead, mut output: impl Write) -> io::Result<()> {
     let mut line = Vec::new();
     while input.read_until(b'\n', &mut line)? > 0 {

@@ -6,8 +6,8 @@ use std::ops::RangeInclusive;
 use crate::greatest_target;
 use crate::values::digits;
 
-/// Consecutive cells of a line, wrapping at its end: a black, cells that may hold any
-/// digit of a set, as many as it has digits, and a black.
+/// Consecutive cells of a line, which may go on at its beginning: a black, a cell for each
+/// digit of a set in any order, and a black.
 #[derive(Clone, Debug, PartialEq, Eq)]
 pub struct Arrangement {
     pub start: usize,

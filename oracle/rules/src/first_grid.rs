@@ -31,8 +31,8 @@ fn searched(size: usize, lines: &[Line], mut table: Vec<u16>) -> Option<Vec<u8>>
     None
 }
 
-/// The first cell with two candidates in its row half, else the first with the fewest
-/// above one.
+/// The first cell that has just two in its row half; where none has, the first of those
+/// with the least choice.
 fn place_to_branch_on(size: usize, table: &[u16]) -> Option<usize> {
     let freedom = |&place: &usize| (table[place] & row_half(size)).count_ones();
     let open = (0..table.len()).filter(|place| freedom(place) > 1);

@@ -24,13 +24,13 @@ pub fn column_blacks(size: usize) -> [u16; 2] {
     [bit(size, 10), bit(size, 11)]
 }
 
-/// The candidates of a cell's row half: its digits and row blacks.
+/// What a cell can be in its row: a digit or a row black.
 pub fn row_half(size: usize) -> u16 {
     let [left, right] = row_blacks(size);
     digits(size) | left | right
 }
 
-/// The candidates of a cell's column half: its digits and column blacks.
+/// What a cell can be in its column: a digit or a column black.
 pub fn column_half(size: usize) -> u16 {
     let [upper, lower] = column_blacks(size);
     digits(size) | upper | lower
