@@ -105,10 +105,12 @@ module _ (n k id : ℕ) (z : Size n) (y : Known n id) where
       at j b =
           let p = place n (arrangement_of n id) j in
           let u = allows_some n id z y (black_at k) j (omega (arith, black_high k)) b in
-          let s = a.served p u.0 (place_at j b) u.1 (part_yes (black_at k) (word_of n id) p u.0 (allowed j u.0 b ∙ u.2)) in
-          (s.value, ap (λ q. places (table_in l) ℓ q s.value) (sym s.asked) ∙ has s.at s.value s.lags,
-          sym (allowed j s.value b) ∙ ap (λ q. pattern (black_at k) (word_of n id) q s.value) (sym s.asked)
-          ∙ part_pattern (black_at k) (word_of n id) s.at s.value s.allowed)
+          let s = a.served p u.0 (place_at j b) u.1 (part_yes (black_at k) (word_of n id) p u.0 (allowed j u.0 b ∙ u.2)) in (
+            s.value,
+            ap (λ q. places (table_in l) ℓ q s.value) (sym s.asked) ∙ has s.at s.value s.lags,
+            sym (allowed j s.value b) ∙ ap (λ q. pattern (black_at k) (word_of n id) q s.value) (sym s.asked)
+                ∙ part_pattern (black_at k) (word_of n id) s.at s.value s.allowed,
+          )
 
       -- a digit of the set may stand next to the head, so it is placed, and between the ends
       inner : (d : ℕ) → Memᴰ d (arrangement_of n id).digit_set →
