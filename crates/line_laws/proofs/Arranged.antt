@@ -17,7 +17,8 @@ use Rattle.table.specs.Closed.{Arrangement, subsets, subsets_with, from_starts, 
 use Rattle.table.proofs.ClosedTest.{Covers}
 use Rattle.table.specs.Table.{half}
 use Rattle.table.specs.Lines.{Places}
-use Rattle.line_laws.proofs.Lists.{mem_keep, of_keep, mem_join, of_join}
+use Rattle.tally.proofs.ListLaws.{mem_keep, of_keep}
+use Rattle.line_laws.proofs.Lists.{mem_join, of_join}
 use Rattle.line_laws.proofs.Subsets.{subset_mem}
 use Rattle.line_laws.proofs.Half.{digit_range, digit_in, first_in, second_in}
 

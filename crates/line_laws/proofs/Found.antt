@@ -15,7 +15,8 @@ use Rattle.rules.specs.Grid.{digits, line_sum, meets}
 use Rattle.table.specs.Closed.{Arrangement, arrangements, place, allows}
 use Rattle.table.proofs.ClosedTest.{Covers}
 use Rattle.table.specs.Table.{own}
-use Rattle.line_laws.proofs.Lists.{mem_keep, of_keep, get_or_mem, count_mem}
+use Rattle.tally.proofs.ListLaws.{mem_keep, of_keep}
+use Rattle.line_laws.proofs.Lists.{get_or_mem, count_mem}
 use Rattle.line_laws.proofs.Pigeonhole.{length_each, sum_each}
 use Rattle.line_laws.proofs.Subsets.{digits_once, keep_subset, subset_once}
 use Rattle.line_laws.proofs.Parts.{LawfulLine, Parts, parts, line_sum_lem, sum_all, own_pre, own_first, own_mid, own_second, own_post}

@@ -1,7 +1,7 @@
 -- Lists: elements that are kept, joined, counted or found at a place, and tests of a span of numbers. Assumes nothing.
 use Prim.Native.Nat.{ℕ, zero, suc, ◌+◌, ◌≤◌, ◌<◌}
 use mathlib.Core.Path.{◌≡◌, refl, sym, ap, ap₂, ◌∙◌}
-use mathlib.Core.Bool.{Bool, true, false, cond}
+use mathlib.Core.Bool.{Bool, true, false}
 use mathlib.Core.Logic.{⊎_elim}
 use mathlib.Core.List.Memᴰ
 use mathlib.Core.List.{List, [], ◌∷◌, map, Memᴰ}
@@ -10,7 +10,7 @@ use native.Mathlib.Nat.{not-suc-le-zero, le_of_suc-le-suc}
 use lib.Dec.{eqb}
 use lib.ListN.{length, get_or}
 use borrow.Author.Tests.{eqb-true, eq-eqb}
-use Rattle.tally.specs.Tally.{one_if, count, keep, join, span}
+use Rattle.tally.specs.Tally.{one_if, count, join, span}
 use Rattle.tally.specs.Way.{Way, done, put}
 use Rattle.tally.proofs.TallyLaws.{test_ext, span_in, span_once, Once}
 
@@ -20,25 +20,9 @@ pub bit_zero : (b : Bool) → one_if b ≡ 0 → b ≡ false
 bit_zero true e = absurd (omega arith)
 bit_zero false e = refl
 
--- ---- kept and joined elements
+-- ---- counted and joined elements
 
 module _ {A : Type 0} where
-  pub mem_keep : (p : A → Bool) {x : A} {xs : List A} → Memᴰ x xs → p x ≡ true → Memᴰ x (keep p xs)
-  unfolding keep
-  mem_keep p (Memᴰ.head {x = y} {xs = ys} e) t = let u : p y ≡ true = rw e at t in rw u (Memᴰ.head e)
-  mem_keep p {x} (Memᴰ.tail {x = y} {xs = ys} m) t =
-      elim (p y) as (λ b. Memᴰ x (cond b (y ∷ keep p ys) (keep p ys))) [ true ↦ Memᴰ.tail (mem_keep p m t) | false ↦ mem_keep p m t ]
-
-  pub of_keep : (p : A → Bool) {x : A} (xs : List A) → Memᴰ x (keep p xs) → Memᴰ x xs × (p x ≡ true)
-  unfolding keep
-  of_keep p [] m = absurd (Memᴰ.not-nil m)
-  of_keep p {x} (y ∷ xs) m = go (p y) refl m (of_keep p xs)
-    where
-      go : (b : Bool) → p y ≡ b → Memᴰ x (cond b (y ∷ keep p xs) (keep p xs)) → (Memᴰ x (keep p xs) → Memᴰ x xs × (p x ≡ true)) → Memᴰ x
-          (y ∷ xs) × (p x ≡ true)
-      go true e m r = ⊎_elim (λ q. (Memᴰ.head q, ap p q ∙ e)) (λ q. let w = r q in (Memᴰ.tail w.0, w.1)) (Memᴰ.cases_cons m)
-      go false e m r = let w = r m in (Memᴰ.tail w.0, w.1)
-
   -- tests that agree on each element, and tests that add up on each
   pub count_on : {p q : A → Bool} (xs : List A) → ((x : A) → Memᴰ x xs → p x ≡ q x) → count p xs ≡ count q xs
   unfolding count

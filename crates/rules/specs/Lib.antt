@@ -1,6 +1,7 @@
 pub mod Grid
 pub mod Mark
 pub mod Number
+pub mod Order
 pub mod Check
 pub mod CheckParts
 pub mod Short

@@ -6,7 +6,7 @@ use mathlib.Core.Logic.{◌⊎◌, inl, inr, ⊎_elim}
 use mathlib.Core.List.{List, [], ◌∷◌, map, Memᴰ}
 use native.Mathlib.Omega.{arith}
 use native.Mathlib.Nat.{add-zero, mul-add-div_right, mul-add-mod_self_right, div-eq_of_lt, mod-eq_of_lt}
-use Rattle.tally.specs.Tally.{one_if, count, span}
+use Rattle.tally.specs.Tally.{one_if, count, span, first}
 use Rattle.tally.specs.Way.{Way}
 use Rattle.tally.proofs.TallyLaws.{span_in, span_length, map_at, Once}
 use Rattle.tally.proofs.WayLaws.{way_map}
@@ -14,7 +14,7 @@ use Rattle.rules.specs.Grid.{black, digits, Line, index, line, cell}
 use Rattle.rules.proofs.GridLaws.{place_lt}
 use Rattle.rules.specs.Short.{symbols}
 use Rattle.table.specs.Table.{Table, places, half}
-use Rattle.table.specs.Reading.{first, choices, read_cell, read_off}
+use Rattle.table.specs.Reading.{choices, read_cell, read_off}
 use Rattle.line_laws.proofs.Lists.{count_pos, count_sole, once_same, map_on}
 use Rattle.line_laws.proofs.Half.{digit_range, HalfValue, a_digit, a_first, a_second, half_value, digit_in, half_once}
 use Rattle.line_laws.proofs.SettledLine.{Settled, symbol_of, cell_digit, cell_black}

@@ -5,7 +5,7 @@ use mathlib.Core.Bool.{Bool, true}
 use mathlib.Core.List.{List, [], ◌∷◌, map}
 use lib.Dec.{leb}
 use lib.ListN.{length}
-use Rattle.tally.specs.Tally.{span, sum, all, any, count, in_front, ways, keep, join}
+use Rattle.tally.specs.Tally.{span, sum, all, any, count, in_front, ways, keep, join, first}
 use Rattle.rules.specs.Grid.{digits, lawful, until_black, inside, line_sum, meets, keeps_line, cell, row, column, line, lines, target, keeps}
 use Rattle.rules.specs.Mark.{rejects}
 use Rattle.rules.specs.Number.{grids}
@@ -13,7 +13,7 @@ use Rattle.table.specs.Closed.{subsets, subsets_with, from_starts, insides, outs
 use Rattle.rules.proofs.Samples.{three}
 use Rattle.table.specs.Table.{Table, places, first_black, half, every_value, own, fits, left, bit_of, has_bit, table_of}
 use Rattle.table.specs.Steps.{struck, strikes, taken, marked, marked_all, lies, opening}
-use Rattle.table.specs.Reading.{first, read_cell, read_off}
+use Rattle.table.specs.Reading.{read_cell, read_off}
 
 -- which of the values 1, 8, 9, 10 and 11 each cell of a table of size 3 has
 unfoldable pub candidates_shown : Table → List (List Bool)

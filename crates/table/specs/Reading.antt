@@ -1,14 +1,9 @@
 -- Reading a table: how many candidates a half has, and the grid of a settled table. Assumes nothing.
-use Rattle.std.specs.Prelude.{ℕ, ◌*◌, ◌/◌, ◌%◌, ◌<◌, ◌≡◌, Bool, cond, List, [], ◌∷◌, map, ltb}
-use Rattle.tally.specs.Tally.{span, sum, count}
+use Rattle.std.specs.Prelude.{ℕ, ◌*◌, ◌/◌, ◌%◌, ◌<◌, ◌≡◌, Bool, List, map, ltb}
+use Rattle.tally.specs.Tally.{span, sum, count, first}
 use Rattle.rules.specs.Grid.{black, digits}
 use Rattle.rules.specs.Mark.{left_black, upper_black}
 use Rattle.table.specs.Table.{Table, half}
-
--- The first element that passes a test, or d.
-unfoldable pub first : (ℕ → Bool) → ℕ → List ℕ → ℕ
-first q d [] = d
-first q d (x ∷ xs) = cond (q x) x (first q d xs)
 
 -- How many candidates of the half with first black k a cell has.
 unfoldable pub choices : ℕ → ℕ → (ℕ → Bool) → ℕ

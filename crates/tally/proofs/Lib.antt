@@ -1,3 +1,4 @@
 -- What the proofs of several functions use.
 pub mod TallyLaws
 pub mod WayLaws
+pub mod ListLaws

@@ -1,4 +1,4 @@
--- Lists: tests of all elements, counting, and all ways to fill some places. Assumes nothing.
+-- Lists: tests of all elements, counting, sorting, and all ways to fill some places. Assumes nothing.
 use Rattle.std.specs.Prelude.{ℕ, zero, suc, ◌+◌, Bool, true, false, ◌&&◌, ◌||◌, cond, List, [], ◌∷◌, ◌++◌, map}
 
 -- the numbers from a on, k of them
@@ -46,6 +46,26 @@ module _ {A : Type 0} where
   unfoldable pub any : (A → Bool) → List A → Bool
   any p [] = false
   any p (x ∷ xs) = p x || any p xs
+
+  -- the first element that passes the test, or d
+  unfoldable pub first : (A → Bool) → A → List A → A
+  first p d [] = d
+  first p d (x ∷ xs) = cond (p x) x (first p d xs)
+
+  -- x put into a list, before the first element that it is to precede
+  unfoldable pub insert : (A → A → Bool) → A → List A → List A
+  insert precedes x [] = x ∷ []
+  insert precedes x (y ∷ ys) = cond (precedes x y) (x ∷ y ∷ ys) (y ∷ insert precedes x ys)
+
+  -- a list sorted
+  unfoldable pub sort : (A → A → Bool) → List A → List A
+  sort precedes [] = []
+  sort precedes (x ∷ xs) = insert precedes x (sort precedes xs)
+
+  -- each element precedes all behind it
+  unfoldable pub ordered : (A → A → Bool) → List A → Bool
+  ordered precedes [] = true
+  ordered precedes (x ∷ xs) = all (precedes x) xs && ordered precedes xs
 
   -- the lists one behind the other
   unfoldable pub join : List (List A) → List A

@@ -11,11 +11,12 @@ use lib.ListN.{get_or}
 use lib.Bits.{bit_and, and_lt}
 use lib.Count.{count_trailing_zeros}
 use borrow.Author.Tests.{eqb-true, eq-eqb, ne_eqb}
-use Rattle.tally.specs.Tally.{span, all}
+use Rattle.tally.specs.Tally.{span, all, first}
 use Rattle.tally.proofs.TallyLaws.{span_mem}
+use Rattle.tally.proofs.ListLaws.{first_none, first_at}
 use Rattle.tally.proofs.WayLaws.{all_each}
 use Rattle.rules.specs.Grid.{digits}
-use Rattle.table.specs.Reading.{first, read_cell}
+use Rattle.table.specs.Reading.{read_cell}
 use Rattle.bits.specs.Bit.{bit}
 use Rattle.bits.proofs.BitLaws.{bit_lt, bit_and_lem, bit_none, Lowest, trailing_lowest}
 use Rattle.queue_state.specs.Slab.{cand, table_in}
@@ -23,21 +24,6 @@ use Rattle.queue_state.proofs.SlabLaws.{cand_in}
 use Rattle.queue_state.proofs.ReadyLaws.{ready_valid}
 use Rattle.queue_state.specs.Ready.{Ready}
 use Rattle.table.specs.Value.{ValueOf}
-
-module _ (q : ℕ → Bool) (d : ℕ) where
-  first_none : (a k : ℕ) → ((j : ℕ) → a ≤ j → j < a + k → q j ≡ false) → first q d (span a k) ≡ d
-  unfolding first span
-  first_none a zero e = refl
-  first_none a (suc k) e = rw (e a (omega arith) (omega arith)) (first_none (suc a) k (λ j h g. e j (omega arith) (omega arith)))
-
-  first_at : (a k t : ℕ) → a ≤ t → t < a + k → q t ≡ true → ((j : ℕ) → a ≤ j → j < t → q j ≡ false) → first q d (span a k) ≡ t
-  unfolding first span
-  first_at a zero t h g p e = absurd (omega arith)
-  first_at a (suc k) t h g p e =
-      elim (ℕ_discrete a t) [
-        | yes z ↦ rw (z, p)
-        | no z ↦ rw (e a (omega arith) (omega arith)) (first_at (suc a) k t (omega arith) (omega arith) p (λ j u v. e j (omega arith) v))
-      ]
 
 -- the bits of the digits
 digit_mask : (v : ℕ) → 1 ≤ v → v < 8 → bit v 254 ≡ 1
