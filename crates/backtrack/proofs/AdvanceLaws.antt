@@ -1,8 +1,8 @@
 -- What propagation and the branching rule tell: no grid left, one grid left, or a choice. Assumes nothing.
 use Prim.Native.Nat.{ℕ, ◌+◌, ◌*◌, ◌/◌, ◌%◌, ◌≤◌, ◌<◌}
-use mathlib.Core.Path.{◌≡◌, sym, ◌∙◌, subst}
+use mathlib.Core.Path.{◌≡◌, sym, ap, ◌∙◌, subst}
 use mathlib.Core.Bool.{Bool, true, false}
-use mathlib.Core.List.{List}
+use mathlib.Core.List.{List, [], ◌∷◌}
 use native.Mathlib.Omega.{arith}
 use Rattle.rules.specs.Grid.{Puzzle}
 use Rattle.table.specs.Reading.{choices, read_off, AllSettled}
@@ -19,7 +19,8 @@ use Rattle.invariants.specs.State.{Kept, Propagated}
 use Rattle.invariants.proofs.StateLaws.{within_sub}
 use Rattle.pick.specs.Choice.{row_choices, Branch}
 use Rattle.pick.proofs.ChoiceLaws.{row_choices_lem}
-use Rattle.backtrack.specs.Search.{FitGrid, NoneLeft, OneLeft, Branching}
+use Rattle.grid_order.proofs.RemainingLaws.{remaining_same, remaining_none, remaining_one}
+use Rattle.backtrack.specs.Search.{NoneLeft, OneLeft, Branching}
 
 module _ {n : ℕ} {l l' : List ℕ} (z : n ≤ 9) where
   pub advance_none : {b : Bool} → b ≡ false → Propagated n l l' b → NoneLeft n l l'
@@ -28,9 +29,10 @@ module _ {n : ℕ} {l l' : List ℕ} (z : n ≤ 9) where
       record {
         size = a.size;
         none = λ p q k.
-            same_left (a.sound p q k)
+            remaining_none p (table_in l)
+            (same_left (a.sound p q k)
             ∙ empty_left p (table_in l') (subst (λ m. m ≤ 9) (sym q) z) e.row e.column (subst (λ m. e.row < m) (sym q) e.row_in) (subst (λ m. e.column < m) (sym q) e.column_in)
-            (subst (λ m. Empty m (table_in l') e.row e.column) (sym q) e.empty);
+            (subst (λ m. Empty m (table_in l') e.row e.column) (sym q) e.empty));
       }
 
   module _ {b : Bool} (t : b ≡ true) (a : Propagated n l l' b) where
@@ -57,17 +59,17 @@ module _ {n : ℕ} {l l' : List ℕ} (z : n ≤ 9) where
             size = a.size;
             ready = advance_ready;
             one = λ p q k.
-                same_left (a.sound p q k) ∙ settled_left p (table_in l') (subst (λ m. m ≤ 9) (sym q) z) (a.closed t p q k) (settled_at p q k);
-            read = λ p q k.
                 let small = subst (λ m. m ≤ 9) (sym q) z in
+                let u = table_in l' in
                 let cl = a.closed t p q k in
                 let se = settled_at p q k in
-                let d : GridOf p (read_off p.size (table_in l')) = record { filled = read_way p.size (table_in l'); kept = read_keeps p (table_in l') small cl se } in
-                subst (λ m. FitGrid p l (read_off m (table_in l'))) q
-                (record { grid = d; fit = (a.sound p q k).same (read_off p.size (table_in l')) d ∙ read_fits p (table_in l') small cl se });
+                let d : GridOf p (read_off p.size u) = record { filled = read_way p.size u; kept = read_keeps p u small cl se } in
+                remaining_same p (a.sound p q k)
+                ∙ remaining_one p u (read_off p.size u) (settled_left p u small cl se) d (read_fits p u small cl se)
+                ∙ ap (λ m. read_off m u ∷ []) q;
           }
 
-    pub advance_branch : {x v : ℕ} → Branch n l' x v → Branching n l l' x v
+    pub advance_branch : {r c v : ℕ} → Branch n l' r c v → Branching n l l' r c v
     advance_branch br =
         record {
           size = a.size;
@@ -75,5 +77,6 @@ module _ {n : ℕ} {l l' : List ℕ} (z : n ≤ 9) where
           within = within_sub n l l' z a.sub;
           kept = a.kept t;
           same = a.sound;
+          closed = a.closed t;
           branch = br;
         }

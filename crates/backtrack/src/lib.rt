@@ -4,7 +4,7 @@
 
 ghost use Rattle.std.specs.Prelude.{◌≡◌, ◌&&◌, eqb, length};
 ghost use Rattle.invariants.specs.State.{Lagging};
-ghost use Rattle.backtrack.specs.Search.{Advanced, SearchAsk, Searched, SettleAsk, SettledAs};
+ghost use Rattle.backtrack.specs.Search.{Advanced, SearchAsk, Searched, SettleAsk, settled_cells};
 
 use arrangements::Arrangements;
 use copy::copy;
@@ -52,14 +52,14 @@ fn is_first(wanted: bool, found: u64) -> bool
 // instructions again (tried).
 fn settle(st: &[u16], n: usize, wanted: bool, cells: &mut [u8])
     requires { SettleAsk n st.now wanted (length cells.old) }
-    ensures { SettledAs n st.now wanted cells.old cells.new }
+    ensures { cells.new ≡ settled_cells n st.now wanted cells.old }
 {
     if wanted {
         write_grid(StateView { st, n }, cells);
     }
 }
 
-// The number of grids that fit, at most max; the first is written to cells if it is wanted. No Option of the cells: what one points at afterwards is, in a
+// The number of grids that fit, at most max; the first in the order of grids is written to cells if it is wanted. No Option of the cells: what one points at afterwards is, in a
 // contract, a sum over its variants (tried), and the flag says it in a word.
 pub fn search(
     st: &mut [u16],

@@ -1,5 +1,6 @@
 -- A sheet that is marked right, among the grids that Count counts and beside the one that Solve writes. Assumes nothing.
 use Rattle.std.specs.Prelude.{ℕ, zero, suc, ◌*◌, ◌<◌, min, ◌≡◌, refl, Bool, true, false, ◌⊎◌, length, ⊤, Option, None, Some, Result, Ok, Err}
+use Rattle.std.proofs.Math.Path.{sym, subst}
 use Rattle.std.proofs.Common.{ap, ◌∙◌, inl, inr, arith}
 use mathlib.Core.List.{List, [], ◌∷◌}
 use borrow.Author.Tests.{eqb-true, eq-eqb, le-leb}
@@ -21,7 +22,8 @@ use Rattle.number.specs.VerdictLaws.{zero_none, one_only}
 use Rattle.line_laws.proofs.Filled.{sheet_grid}
 use Rattle.puzzle.proofs.PuzzleLaws.{puzzle_numbered}
 use Rattle.engine.specs.declared.Verdict.TheVariants.{Unique, Multiple}
-use Rattle.engine.specs.Answer.{count_answer, verdict_on, solve_answer, SolveWritten}
+use Rattle.engine.specs.Answer.{count_answer, verdict_on, solve_answer, solve_cells}
+use Rattle.grid_order.proofs.FoundLaws.{first_solution}
 use Rattle.engine.proofs.CountLaws.{count_asked}
 use Rattle.engine.proofs.SolveLaws.{solve_counts}
 use Rattle.corollaries.specs.CountLaws.{answer_counted}
@@ -97,13 +99,13 @@ shown : (r : Result ⊤ Refusal) (grids : ℕ) → (answered r (verdict_on grids
 shown r grids (inl e) = let o = one_answered r grids e in (o.0, omega (arith, o.1))
 shown r grids (inr e) = multiple_some r grids e
 
-module _ (u : Unit) (p : Puzzle) (cells key : List ℕ) (w : SolveWritten u p [] cells key) where
+module _ (u : Unit) (p : Puzzle) (cells key : List ℕ) (w : key ≡ solve_cells u p [] cells) where
   -- WRITTEN: it is marked right.
   pub key_right : (solve_answer u p [] (length cells) ≡ Ok Unique) ⊎ (solve_answer u p [] (length cells) ≡ Ok Multiple) → mark_sheet u p key ≡ Ok true
   key_right e =
       let s = shown (checked (solve_checks u p [] (length cells))) (number p []) e in
       let q = passed_number _ s.0 in
-      counted_right u p key (solve_counts u p [] (length cells) q) (w.written q s.1)
+      counted_right u p key (solve_counts u p [] (length cells) q) (subst (Solution p []) (sym (w ∙ rw q)) (first_solution p [] s.1 cells))
 
   -- THE KEY: if the verdict is unique, a sheet is right exactly when it equals that grid.
   pub key_only : solve_answer u p [] (length cells) ≡ Ok Unique → (sheet : List ℕ) → (mark_sheet u p sheet ≡ Ok true → sheet ≡ key) × (sheet ≡ key → mark_sheet u p sheet ≡ Ok true)

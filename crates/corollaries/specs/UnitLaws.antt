@@ -1,6 +1,6 @@
 -- The same input in two units that both take it. What a unit refuses by its limits stands with the checks: crates/rules/proofs/UnitLaws.antt. Assumes
 -- nothing.
-use Rattle.std.specs.Prelude.{⊤, ℕ, ◌≤◌, ◌<◌, ◌≡◌, ◌⊎◌, true, List, length, Result, Ok, Err}
+use Rattle.std.specs.Prelude.{⊤, ℕ, ◌≤◌, ◌<◌, ◌≡◌, ◌⊎◌, true, cond, eqb, List, length, Result, Ok, Err}
 use Rattle.std.proofs.Math.Path.{refl, sym, ap}
 use Rattle.std.proofs.Common.{◌∙◌, inl, inr, ⊎_elim, arith}
 use Rattle.std.proofs.Math.Decide.{ℕ_discrete}
@@ -10,11 +10,12 @@ use Rattle.units.specs.Limits.{takes_size, takes_list}
 use Rattle.rules.specs.Grid.{Puzzle, keeps}
 use Rattle.rules.specs.Check.{checked, answered, refusal, solve_checks}
 use Rattle.rules.specs.Number.{number, capped}
+use Rattle.rules.specs.Order.{found, first_or}
 use Rattle.rules.specs.Sums.{summed_as, target_sums}
 use Rattle.rules.proofs.UnitLaws.{alike_sums, alike_sheet, alike_count, alike_solve}
 use Rattle.number.specs.VerdictLaws.{one_only}
 use Rattle.sheet_marking.specs.Answer.{mark_sheet}
-use Rattle.engine.specs.Answer.{count_answer, verdict_on, solve_answer, SolveWritten}
+use Rattle.engine.specs.Answer.{count_answer, verdict_on, solve_answer, solve_cells}
 use Rattle.engine.proofs.SolveLaws.{solve_asked}
 use Rattle.candidates.specs.declared.Outcome.{Outcome}
 use Rattle.candidates.specs.declared.Outcome.TheVariants.{Contradicted, Written}
@@ -43,29 +44,12 @@ module _ (u v : Unit) (p : Puzzle) (a : takes_size u p.size ≡ true) (b : takes
     refused_alike : (len : ℕ) → refusal (solve_checks u p ms len) ≡ refusal (solve_checks v p ms len)
     refused_alike len = ap refusal (alike_solve u v p (a ∙ sym b) ms (c ∙ sym d) len)
 
-    -- Solve: the same answer; what one unit may leave in the cells, the other may.
+    -- Solve: the same answer, and the same cells.
     pub same_solve : (len : ℕ) → solve_answer u p ms len ≡ solve_answer v p ms len
     same_solve len = ap (λ qs. answered (checked qs) (verdict_on (number p ms))) (alike_solve u v p (a ∙ sym b) ms (c ∙ sym d) len)
 
-    pub same_written : (cells cells' : List ℕ) → SolveWritten u p ms cells cells' → SolveWritten v p ms cells cells'
-    same_written cells cells' w =
-        let e = refused_alike (length cells) in
-        record {
-          untouched = λ x. w.untouched (⊎_elim (λ n. inl (λ z. n (sym e ∙ z))) inr x);
-          written = λ z. w.written (e ∙ z);
-        }
-
-    -- Unless there are several grids, the cells are left the same.
-    pub same_cells : (cells left right : List ℕ) → number p ms ≤ 1 → SolveWritten u p ms cells left → SolveWritten v p ms cells right → left ≡ right
-    same_cells cells left right h w x =
-        elim (ℕ_discrete (refusal (solve_checks u p ms (length cells))) 0) [
-          | yes z ↦ elim (ℕ_discrete (number p ms) 0) [
-            | yes e ↦ w.untouched (inr e) ∙ sym (x.untouched (inr e))
-            | no n ↦ one_only p ms (solve_asked u p ms (length cells) z).count.puzzle.size.high (omega arith) right left
-                (x.written (sym (refused_alike (length cells)) ∙ z) (omega arith)) (w.written z (omega arith))
-          ]
-          | no n ↦ w.untouched (inl n) ∙ sym (x.untouched (inl (λ z. n (refused_alike (length cells) ∙ z))))
-        ]
+    pub same_cells : (cells : List ℕ) → solve_cells u p ms cells ≡ solve_cells v p ms cells
+    same_cells cells = ap (λ k. cond (eqb k 0) (first_or cells (found p ms)) cells) (refused_alike (length cells))
 
     -- Candidates: what one unit may answer and leave in the table, the other may.
     pub same_table : (answer : Result Outcome Refusal) (table table' : List ℕ) → TableGiven u p ms answer table table' → TableGiven v p ms answer table table'

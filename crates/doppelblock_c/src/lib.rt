@@ -8,7 +8,7 @@ ghost use Rattle.rules.specs.Grid.{puzzle};
 ghost use Rattle.rules.specs.Mark.{marks_of};
 ghost use Rattle.rules.specs.Sums.{target_sums};
 ghost use Rattle.sheet_marking.specs.Answer.{mark_sheet};
-ghost use Rattle.engine.specs.Answer.{count_answer, solve_answer, SolveWritten};
+ghost use Rattle.engine.specs.Answer.{count_answer, solve_answer, solve_cells};
 ghost use Rattle.host.specs.Number.{TableNumbered, sheet_number, count_out, solve_number};
 
 use units::Unit;
@@ -55,7 +55,7 @@ pub extern "C" fn doppelblock_count(
     host::count(Unit::hall(), size, rows, columns, marks, cap, count)
 }
 
-// UNSOLVABLE, UNIQUE or MULTIPLE, or the number of the refusal. The cells hold one of the grids, if there is one.
+// UNSOLVABLE, UNIQUE or MULTIPLE, or the number of the refusal. The cells hold the first of the grids in order, if there is one.
 #[unsafe(no_mangle)]
 pub extern "C" fn doppelblock_solve(
     size: usize,
@@ -66,7 +66,7 @@ pub extern "C" fn doppelblock_solve(
 ) -> u8
     ensures { (result ≡ solve_number
         (solve_answer hall (puzzle size rows.now columns.now) (marks_of marks.now) (length cells.old)))
-        × SolveWritten hall (puzzle size rows.now columns.now) (marks_of marks.now) cells.old cells.new }
+        × (cells.new ≡ solve_cells hall (puzzle size rows.now columns.now) (marks_of marks.now) cells.old) }
 {
     host::solve(Unit::hall(), size, rows, columns, marks, cells)
 }

@@ -8,7 +8,7 @@ ghost use Rattle.rules.specs.Grid.{puzzle};
 ghost use Rattle.rules.specs.Mark.{marks_of};
 ghost use Rattle.rules.specs.Sums.{target_sums};
 ghost use Rattle.sheet_marking.specs.Answer.{mark_sheet};
-ghost use Rattle.engine.specs.Answer.{count_answer, solve_answer, SolveWritten};
+ghost use Rattle.engine.specs.Answer.{count_answer, solve_answer, solve_cells};
 ghost use Rattle.host.specs.Number.{TableNumbered, sheet_number, count_out, solve_number};
 
 use units::Unit;
@@ -55,7 +55,7 @@ pub extern "C" fn doppelblock_classroom_count(
     host::count(Unit::classroom(), size, rows, columns, marks, cap, count)
 }
 
-// UNSOLVABLE, UNIQUE or MULTIPLE, or the number of the refusal. The cells hold one of the grids, if there is one.
+// UNSOLVABLE, UNIQUE or MULTIPLE, or the number of the refusal. The cells hold the first of the grids in order, if there is one.
 #[unsafe(no_mangle)]
 pub extern "C" fn doppelblock_classroom_solve(
     size: usize,
@@ -66,8 +66,7 @@ pub extern "C" fn doppelblock_classroom_solve(
 ) -> u8
     ensures { (result ≡ solve_number
         (solve_answer classroom (puzzle size rows.now columns.now) (marks_of marks.now) (length cells.old)))
-        × SolveWritten classroom (puzzle size rows.now columns.now) (marks_of marks.now)
-        cells.old cells.new }
+        × (cells.new ≡ solve_cells classroom (puzzle size rows.now columns.now) (marks_of marks.now) cells.old) }
 {
     host::solve(Unit::classroom(), size, rows, columns, marks, cells)
 }

@@ -1,10 +1,11 @@
 -- The count from the search, and the answer from the count. Assumes nothing.
 use Prim.Native.Nat.{ℕ, ◌≤◌, min}
-use mathlib.Core.Path.{◌≡◌, refl, sym, ap, ◌∙◌}
+use mathlib.Core.Path.{◌≡◌, sym, ap, ◌∙◌}
 use mathlib.Core.Bool.{Bool, false}
 use mathlib.Core.List.{List}
 use native.Mathlib.Omega.{arith}
-use lib.ListN.{length}
+use lib.ListN.{length, take}
+use Rattle.std.proofs.lemmas.List.{length-take}
 use Rattle.rules.proofs.CheckLaws.{checked_skip, checked_stop, passed_number, refusal_none, refusal_none_left, refusal_none_right}
 use Rattle.std.specs.Prelude.{Ok, Err}
 use Rattle.refusal.specs.declared.Refusal.{Refusal}
@@ -18,15 +19,17 @@ use Rattle.puzzle.specs.Stands.{puzzle_of}
 use Rattle.rules.specs.Check.{checked, refusal, puzzle_checks, count_checks}
 use Rattle.rules.specs.CheckParts.{mark_checks, list_checks}
 use Rattle.rules.specs.Number.{number, capped}
+use Rattle.rules.specs.Order.{found}
 use Rattle.table.specs.Table.{left}
 use Rattle.puzzle.proofs.PuzzleLaws.{puzzle_numbered, accepted}
-use Rattle.soundness.proofs.SameLaws.{same_left, same_ext}
-use Rattle.soundness.proofs.MarkLaws.{marks_number}
+use Rattle.soundness.proofs.SameLaws.{same_ext}
 use Rattle.soundness.proofs.GridStable.{stable_whole}
 use Rattle.soundness.proofs.MarkLaws as marks
 use Rattle.queue_state.specs.Slab.{table_in}
 use Rattle.line_laws.proofs.CellValues.{value_small}
-use Rattle.backtrack.specs.Search.{Searched}
+use Rattle.grid_order.specs.Remaining.{remaining}
+use Rattle.grid_order.proofs.RemainingLaws.{remaining_length, remaining_same}
+use Rattle.grid_order.proofs.FoundLaws.{found_length, found_marked}
 use Rattle.prepare.specs.declared.Question.{Question}
 use Rattle.prepare.specs.Prepared.{Prepared, Marked}
 use Rattle.engine.specs.Answer.{count_answer}
@@ -81,13 +84,15 @@ module _ {p : Puzzle} {ms : List ℕ} (a : CountAsk p ms) where
   count_none cap d e = let z = d.none e in omega arith
 
   module _ {l : List ℕ} (m : Marked p ms l) where
-    -- what is left in the table is the number
-    pub count_left : left p (table_in l) ≡ number p ms
-    count_left =
-        same_left (same_ext p small (λ r c v hr hc k. m.table r c v (omega (arith, small)) (omega (arith, small)) (value_small p.size v small k)))
-        ∙ sym (marks_number p small (table_in m.before) ms (marks.accepted p.size ms a.marks)
-        (stable_whole p small (table_in m.before) m.rested.stable))
+    -- what is left in the table is what is found
+    pub found_left : remaining p (table_in l) ≡ found p ms
+    found_left =
+        remaining_same p (same_ext p small (λ r c v hr hc k. m.table r c v (omega (arith, small)) (omega (arith, small)) (value_small p.size v small k)))
+        ∙ sym (found_marked p small (table_in m.before) ms (marks.accepted p.size ms a.marks) (stable_whole p small (table_in m.before) m.rested.stable))
 
-    pub count_found : {cap r : ℕ} {wanted : Bool} {cells cells' : List ℕ} → Searched p.size l cap wanted r cells cells' → r ≡ capped cap p ms
+    pub count_left : left p (table_in l) ≡ number p ms
+    count_left = sym (remaining_length p (table_in l)) ∙ ap length found_left ∙ found_length p ms
+
+    pub count_found : (cap : ℕ) {r : ℕ} → r ≡ length (take cap (remaining p (table_in l))) → r ≡ capped cap p ms
     unfolding capped
-    count_found {cap} s = s.count p refl m.kept ∙ ap (min cap) count_left
+    count_found cap e = e ∙ ap (λ gs. length (take cap gs)) found_left ∙ length-take cap (found p ms) ∙ ap (min cap) (found_length p ms)

@@ -1,11 +1,10 @@
 -- The verdict and the grid from the search. Assumes nothing.
 use Prim.Native.Nat.{ℕ, zero, suc, ◌*◌, ◌≤◌, min}
 use mathlib.Core.Path.{◌≡◌, refl, sym, ap, ◌∙◌}
-use mathlib.Core.Bool.{Bool, true, false}
-use mathlib.Core.Logic.{inl, ⊎_elim}
+use mathlib.Core.Bool.{Bool, true, false, cond}
 use mathlib.Core.List.{List, [], ◌∷◌}
 use native.Mathlib.Omega.{arith}
-use lib.ListN.{length}
+use lib.ListN.{length, take}
 use borrow.Author.Tests.{eq-eqb, ne_eqb, eqb-true}
 use Rattle.std.specs.Prelude.{Ok, Err}
 use Rattle.refusal.specs.declared.Refusal.{Refusal}
@@ -18,22 +17,18 @@ use Rattle.rules.specs.Grid.{Puzzle}
 use Rattle.rules.specs.Check.{check_buffer, checked, refusal, puzzle_checks, count_checks, solve_checks}
 use Rattle.rules.specs.CheckParts.{list_checks}
 use Rattle.rules.specs.Number.{number, capped}
+use Rattle.rules.specs.Order.{found, first_or}
+use Rattle.grid_order.proofs.FoundLaws.{found_length}
 use Rattle.puzzle.specs.Stands.{puzzle_of}
 use Rattle.puzzle.proofs.PuzzleLaws.{puzzle_numbered}
-use Rattle.soundness.specs.SameGrids.{Within}
-use Rattle.soundness.proofs.MarkLaws.{within_solution}
-use Rattle.soundness.proofs.MarkLaws as marks
-use Rattle.table.specs.Steps.{marked_all}
-use Rattle.queue_state.specs.Slab.{table_in}
-use Rattle.line_laws.proofs.CellValues.{value_small}
 use Rattle.backtrack.specs.Search.{SearchAsk, Searched}
 use Rattle.rules.specs.Mark.{marks_of}
 use Rattle.prepare.specs.declared.Question.{Question}
 use Rattle.prepare.specs.Prepared.{Prepared, Marked}
 use Rattle.engine.specs.declared.Verdict.{Verdict}
 use Rattle.engine.specs.declared.Verdict.TheVariants.{Unsolvable, Unique, Multiple}
-use Rattle.engine.specs.Answer.{verdict_on, solve_answer, SolveWritten, Found}
-use Rattle.engine.proofs.CountLaws.{CountAsk, question_asks, count_asked, count_found, count_none}
+use Rattle.engine.specs.Answer.{verdict_on, solve_answer, solve_cells, Found}
+use Rattle.engine.proofs.CountLaws.{CountAsk, question_asks, count_asked, found_left, count_found, count_none}
 
 -- ---- refusals
 
@@ -97,38 +92,47 @@ verdict_2 (suc (suc k)) a b = refl
 
 -- ---- the search
 
+first_none : (cells : List ℕ) (max : ℕ) → first_or cells (take max []) ≡ cells
+unfolding first_or
+first_none cells zero = refl
+first_none cells (suc max) = refl
+
+length_nil : (gs : List (List ℕ)) → length gs ≡ 0 → gs ≡ []
+length_nil [] e = refl
+length_nil (g ∷ gs) e = absurd (omega arith)
+
 module _ {p : Puzzle} {ms : List ℕ} (a : CountAsk p ms) where
   found_small : p.size ≤ 9
   found_small = a.puzzle.size.high
 
   pub found_none : {max : ℕ} {wanted : Bool} {l cells : List ℕ} {ok : Bool} → Prepared p ms l ok → ok ≡ false → Found p ms max wanted 0 cells cells
-  found_none {max} d e = record { count = count_none a max d e; untouched = λ _. refl; written = λ _ h. absurd (omega arith) }
+  found_none {max} {wanted} {l} {cells} d e = record { capped_count = count_none a max d e; cells_hold = sym (nothing wanted) }
+    where
+      none : found p ms ≡ []
+      none = length_nil (found p ms) (found_length p ms ∙ d.none e)
+
+      nothing : (b : Bool) → cond b (first_or cells (take max (found p ms))) cells ≡ cells
+      nothing true = ap (λ gs. first_or cells (take max gs)) none ∙ first_none cells max
+      nothing false = refl
 
   module _ {l : List ℕ} (m : Marked p ms l) where
     pub found_search : {wanted : Bool} {room : ℕ} → (wanted ≡ true → room ≡ p.size * p.size) → SearchAsk p.size l wanted room
     found_search f = record { lagging = m.lagging; fits = f }
 
-    in_marks : Within p.size (table_in l) (marked_all (table_in m.before) ms)
-    in_marks = record { kept = λ r c v hr hc k e. sym (m.table r c v (omega (arith, found_small)) (omega (arith, found_small)) (value_small p.size v found_small k)) ∙ e }
-
     pub found_grids : {max : ℕ} {wanted : Bool} {r : ℕ} {cells cells' : List ℕ} → Searched p.size l max wanted r cells cells' → Found p ms max wanted r cells cells'
-    found_grids {cells' = cells'} s =
-        record {
-          count = count_found a m s;
-          untouched = s.untouched;
-          written = λ w h. let g = s.written w h p refl m.kept in
-              within_solution p found_small (table_in m.before) ms (marks.accepted p.size ms a.marks) in_marks cells' g.grid g.fit;
-        }
+    found_grids {max} {wanted} {r} {cells} {cells'} s =
+        let g = s.gives p refl m.kept in
+        record { capped_count = count_found a m max g.count; cells_hold = g.cells_hold ∙ ap (λ gs. cond wanted (first_or cells (take max gs)) cells) (found_left a m) }
 
 pub solve_small : {p : Puzzle} {ms : List ℕ} {len : ℕ} → SolveAsk p ms len → p.size ≤ 9
 solve_small a = a.count.puzzle.size.high
 
 -- ---- the whole call
 
-pub solve_refused : {u : Unit} {p : Puzzle} {ms cells : List ℕ} (k : Refusal) → Err k ≡ checked (solve_checks u p ms (length cells)) →
-    (Err k ≡ solve_answer u p ms (length cells)) × SolveWritten u p ms cells cells
+pub solve_refused : (u : Unit) (p : Puzzle) (ms cells : List ℕ) (k : Refusal) → Err k ≡ checked (solve_checks u p ms (length cells)) →
+    (Err k ≡ solve_answer u p ms (length cells)) × (cells ≡ solve_cells u p ms cells)
 unfolding refusal
-solve_refused k d = (rw (← d), record { untouched = λ _. refl; written = λ e. absurd (number_positive k (ap number_of d ∙ e)) })
+solve_refused u p ms cells k d = (rw (← d), rw (ne_eqb (number_of (checked (solve_checks u p ms (length cells)))) 0 (λ e. number_positive k (ap number_of d ∙ e))))
 
 -- a count to the cap 2 tells the verdict
 pub verdict_capped : (k : ℕ) → verdict_on (min 2 k) ≡ verdict_on k
@@ -136,12 +140,15 @@ verdict_capped zero = refl
 verdict_capped (suc zero) = refl
 verdict_capped (suc (suc k)) = let e : min 2 (suc (suc k)) ≡ 2 = omega arith in rw e
 
-pub solve_done : {u : Unit} {p : Puzzle} {ms cells cells' : List ℕ} {r : ℕ} (v : Verdict) → Ok tt ≡ checked (solve_checks u p ms (length cells)) → Found p ms 2 true r cells cells' →
-    v ≡ verdict_on r → (Ok v ≡ solve_answer u p ms (length cells)) × SolveWritten u p ms cells cells'
+first_two : (cells : List ℕ) (gs : List (List ℕ)) → first_or cells (take 2 gs) ≡ first_or cells gs
+unfolding first_or
+first_two cells [] = refl
+first_two cells (g ∷ gs) = refl
+
+pub solve_done : (u : Unit) (p : Puzzle) (ms cells : List ℕ) {cells' : List ℕ} {r : ℕ} (v : Verdict) → Ok tt ≡ checked (solve_checks u p ms (length cells)) → Found p ms 2 true r cells cells' →
+    v ≡ verdict_on r → (Ok v ≡ solve_answer u p ms (length cells)) × (cells' ≡ solve_cells u p ms cells)
 unfolding capped
-solve_done {u} {p} {ms} {cells} {cells'} {r} v d f e =
+solve_done u p ms cells v d f e =
     let q = passed_number (solve_checks u p ms (length cells)) (sym d) in
-    let c : v ≡ verdict_on (number p ms) = e ∙ ap verdict_on f.count ∙ verdict_capped (number p ms) in (
-      rw (← d, c),
-      record { untouched = λ u. ⊎_elim (λ x. absurd (x q)) (λ x. f.untouched (inl (omega (arith, f.count)))) u; written = λ _ h. f.written refl (omega (arith, f.count)) },
-    )
+    let c : v ≡ verdict_on (number p ms) = e ∙ ap verdict_on f.capped_count ∙ verdict_capped (number p ms) in
+    (rw (← d, c), rw q (f.cells_hold ∙ first_two cells (found p ms)))

@@ -1,10 +1,11 @@
 -- The answers of Count and of Solve, by their cases, and the grid that Solve writes. Assumes nothing.
-use Rattle.std.specs.Prelude.{ℕ, zero, suc, ◌<◌, ◌≡◌, ◌⊎◌, Bool, true, false, List, length, Result}
+use Rattle.std.specs.Prelude.{ℕ, zero, suc, ◌≡◌, Bool, cond, eqb, List, length, take, Result}
 use Rattle.refusal.specs.declared.Refusal.{Refusal}
 use Rattle.units.specs.declared.Unit.{Unit}
 use Rattle.rules.specs.Grid.{Puzzle}
 use Rattle.rules.specs.Check.{checked, answered, refusal, count_checks, solve_checks}
-use Rattle.rules.specs.Number.{Solution, number, capped}
+use Rattle.rules.specs.Number.{number, capped}
+use Rattle.rules.specs.Order.{found, first_or}
 use Rattle.engine.specs.declared.Verdict.{Verdict}
 use Rattle.engine.specs.declared.Verdict.TheVariants.{Unsolvable, Unique, Multiple}
 
@@ -26,13 +27,13 @@ verdict_on (suc (suc more)) = Multiple
 abbrev pub solve_answer : Unit → Puzzle → List ℕ → ℕ → Result Verdict Refusal
 solve_answer u p ms len = answered (checked (solve_checks u p ms len)) (verdict_on (number p ms))
 
--- What Solve writes in a unit: one of the grids, which of them is left open; on a refusal, and if there is none, the cells are as they were.
-pub record SolveWritten (u : Unit) (p : Puzzle) (ms cells cells' : List ℕ) : Type 0 where
-  pub untouched : (refusal (solve_checks u p ms (length cells)) ≡ 0 → ⊥) ⊎ (number p ms ≡ 0) → cells' ≡ cells
-  pub written : refusal (solve_checks u p ms (length cells)) ≡ 0 → 0 < number p ms → Solution p ms cells'
+-- The cells after Solve in a unit: the first of the grids in order; on a refusal, and if there is none, as they were.
+abbrev pub solve_cells : Unit → Puzzle → List ℕ → List ℕ → List ℕ
+solve_cells u p ms cells = cond (eqb (refusal (solve_checks u p ms (length cells))) 0) (first_or cells (found p ms)) cells
 
--- Grids are counted up to a number, and one is in the cells if it was wanted and there is one; else these are as they were.
-pub record Found (p : Puzzle) (ms : List ℕ) (max : ℕ) (wanted : Bool) (found : ℕ) (cells cells' : List ℕ) : Type 0 where
-  pub count : found ≡ capped max p ms
-  pub untouched : (found ≡ 0) ⊎ (wanted ≡ false) → cells' ≡ cells
-  pub written : wanted ≡ true → 0 < found → Solution p ms cells'
+-- ---- both
+
+-- Grids are counted up to a number, and the first in order is in the cells if it was wanted and there is one; else these are as they were.
+pub record Found (p : Puzzle) (ms : List ℕ) (max : ℕ) (wanted : Bool) (count : ℕ) (cells cells' : List ℕ) : Type 0 where
+  pub capped_count : count ≡ capped max p ms
+  pub cells_hold : cells' ≡ cond wanted (first_or cells (take max (found p ms))) cells

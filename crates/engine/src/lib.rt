@@ -8,7 +8,7 @@ ghost use Rattle.rules.specs.Grid.{puzzle};
 ghost use Rattle.puzzle.specs.Accepted.{Passed};
 ghost use Rattle.puzzle.specs.Stands.{puzzle_of};
 ghost use Rattle.prepare.specs.Asked.{Asks};
-ghost use Rattle.engine.specs.Answer.{count_answer, verdict_on, solve_answer, Found, SolveWritten};
+ghost use Rattle.engine.specs.Answer.{count_answer, verdict_on, solve_answer, solve_cells, Found};
 
 use arrangements::Arrangements;
 use backtrack::search;
@@ -44,7 +44,7 @@ fn check_count<'a>(
     Ok(Question { puzzle, marks })
 }
 
-// The number of a question's grids, at most max; the first is written if it is wanted.
+// The number of a question's grids, at most max; the first in order is written if it is wanted.
 fn find_grids(q: Question, max: u64, wanted: bool, cells: &mut [u8]) -> u64
     requires { wanted ≡ true → length cells.old ≡ q.puzzle.size.n * q.puzzle.size.n }
     ensures { Found (puzzle_of q.entry.puzzle) (marks_of q.entry.marks.now) max wanted result cells.old cells.new }
@@ -108,7 +108,7 @@ fn verdict_of(found: u64) -> Verdict
     }
 }
 
-// The verdict, and one of the grids if there is one.
+// The verdict, and the first of the grids in order if there is one.
 pub fn solve(
     unit: Unit,
     size: usize,
@@ -118,7 +118,7 @@ pub fn solve(
     cells: &mut [u8],
 ) -> Result<Verdict, Refusal>
     ensures { (result ≡ solve_answer unit (puzzle size rows.now columns.now) (marks_of marks.now) (length cells.old))
-        × SolveWritten unit (puzzle size rows.now columns.now) (marks_of marks.now) cells.old cells.new }
+        × (cells.new ≡ solve_cells unit (puzzle size rows.now columns.now) (marks_of marks.now) cells.old) }
 {
     let question = check_solve(unit, size, rows, columns, marks, cells.len())?;
     Ok(verdict_of(find_grids(question, 2, true, cells)))

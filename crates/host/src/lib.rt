@@ -7,7 +7,7 @@ ghost use Rattle.rules.specs.Mark.{marks_of};
 ghost use Rattle.rules.specs.Sums.{target_sums};
 ghost use Rattle.table.specs.Table.{entries_of};
 ghost use Rattle.sheet_marking.specs.Answer.{mark_sheet};
-ghost use Rattle.engine.specs.Answer.{count_answer, solve_answer, SolveWritten};
+ghost use Rattle.engine.specs.Answer.{count_answer, solve_answer, solve_cells};
 ghost use Rattle.table_bytes.specs.Entries.{most_lent};
 ghost use Rattle.host.specs.Number.{TableNumbered, sheet_number, count_out, solve_number};
 
@@ -92,7 +92,7 @@ fn solve_number(answer: Result<Verdict, Refusal>) -> u8
     }
 }
 
-// UNSOLVABLE, UNIQUE or MULTIPLE, or the number of the refusal. The cells hold one of the grids, if there is one.
+// UNSOLVABLE, UNIQUE or MULTIPLE, or the number of the refusal. The cells hold the first of the grids in order, if there is one.
 pub fn solve(
     unit: Unit,
     size: usize,
@@ -103,7 +103,7 @@ pub fn solve(
 ) -> u8
     ensures { (result ≡ solve_number
         (solve_answer unit (puzzle size rows.now columns.now) (marks_of marks.now) (length cells.old)))
-        × SolveWritten unit (puzzle size rows.now columns.now) (marks_of marks.now) cells.old cells.new }
+        × (cells.new ≡ solve_cells unit (puzzle size rows.now columns.now) (marks_of marks.now) cells.old) }
 {
     solve_number(engine::solve(unit, size, rows, columns, marks, cells))
 }

@@ -28,7 +28,7 @@ use Rattle.pick.specs.Choice.{row_choices}
 -- ---- by the set bits
 
 -- the bits of the row half
-mask_in : (v : ℕ) → 1 ≤ v → v < 10 → bit v 1022 ≡ 1
+pub mask_in : (v : ℕ) → 1 ≤ v → v < 10 → bit v 1022 ≡ 1
 unfolding all span bit
 mask_in v h g = eqb-true _ _ (all_each (λ v. eqb (bit v 1022) 1) (span_mem 1 9 v h g) refl)
 

@@ -1,3 +1,4 @@
 -- What the proofs of several functions use.
 pub mod ChoiceLaws
-mod ValueLaws
+mod OpenLaws
+mod LeadLaws

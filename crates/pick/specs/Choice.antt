@@ -1,5 +1,7 @@
--- What a branching rule has to keep: a cell with a choice and one of its candidates, or no cell with a choice. Assumes nothing.
-use Rattle.std.specs.Prelude.{ℕ, ◌+◌, ◌*◌, ◌/◌, ◌%◌, ◌≤◌, ◌<◌, ◌≡◌, List, Option, Some, None}
+-- What is picked: a value of a cell that is open, the first in the sequence of values that still has a choice, at its rightmost place. Assumes nothing.
+use Rattle.std.specs.Prelude.{ℕ, ◌+◌, ◌*◌, ◌/◌, ◌%◌, ◌≤◌, ◌<◌, ◌≡◌, Option, Some, None}
+use mathlib.Core.List.{List, ◌∷◌, ◌++◌, Memᴰ}
+use Rattle.rules.specs.Order.{RowValue, row_value, sequence}
 use Rattle.bits.specs.Sum.{sum_over}
 use Rattle.queue_state.specs.Slab.{cand}
 use Rattle.value.specs.declared.Candidate.{Candidate}
@@ -14,18 +16,32 @@ pub record RowCandidate (l : List ℕ) (x v : ℕ) : Type 0 where
   pub high : v < 10
   pub has : cand l x v ≡ 1
 
--- A cell of the grid with two or more row_half candidates.
-pub record Open (n : ℕ) (l : List ℕ) (x : ℕ) : Type 0 where
-  pub row : x / 9 < n
-  pub column : x % 9 < n
+-- A row_half candidate of a cell that is open: it has two or more.
+pub record Open (l : List ℕ) (x v : ℕ) : Type 0 where
   pub many : 2 ≤ row_choices l x
-
--- An open cell and one of its row_half candidates.
-pub record Branch (n : ℕ) (l : List ℕ) (x v : ℕ) : Type 0 where
-  pub opened : Open n l x
   pub candidate : RowCandidate l x v
+
+-- A value of a row has no choice left: no open cell has it.
+pub record Decided (n : ℕ) (l : List ℕ) (s : RowValue) : Type 0 where
+  pub none_open : (c : ℕ) → c < n → Open l (s.row * 9 + c) s.value → ⊥
+
+-- The values before this one in the sequence have no choice left.
+pub record Foremost (n : ℕ) (l : List ℕ) (s : RowValue) : Type 0 where
+  pub before : List RowValue
+  pub behind : List RowValue
+  pub whole : sequence n ≡ before ++ s ∷ behind
+  pub decided : (t : RowValue) → Memᴰ t before → Decided n l t
+
+-- What may be branched on: of an open cell of row r, in column c, the value v; no value before it in the sequence has a choice left, and no open cell further
+-- right in the row has the value.
+pub record Branch (n : ℕ) (l : List ℕ) (r c v : ℕ) : Type 0 where
+  pub row_in : r < n
+  pub column_in : c < n
+  pub open_here : Open l (r * 9 + c) v
+  pub foremost : Foremost n l (row_value r v)
+  pub rightmost : (j : ℕ) → c < j → j < n → Open l (r * 9 + j) v → ⊥
 
 -- What is picked: a branch, or nothing where no cell of the grid is open.
 abbrev pub Picked : ℕ → List ℕ → Option Candidate → Type 0
-Picked n l (Some x) = (x.row < n) × (x.column < n) × Branch n l (x.row * 9 + x.column) x.value
+Picked n l (Some x) = Branch n l x.row x.column x.value
 Picked n l None = (x : ℕ) → x / 9 < n → x % 9 < n → row_choices l x ≤ 1

@@ -1,78 +1,95 @@
-// The branching rule (in the Rust: pick_branching_cell and pick_branching_bit). Called once for each node of the search, some 250 ns at size 9.
-// Which cell and which value it takes is promised nowhere: the contract of `pick_branch` says what every rule has to keep.
+// The branching rule (in the Rust, by another rule: pick_branching_cell and pick_branching_bit). Called once for each node of the search.
+// It follows the order of grids (crates/rules/specs/Order): so the grids of the branch that takes the value come before those of the branch that rejects it.
 #![tactic(auto)]
 
-ghost use Rattle.std.specs.Prelude.{◌≡◌, ◌+◌, ◌*◌, ◌<◌, IsSomeAnd};
-ghost use Rattle.pick.specs.Choice.{row_choices, RowCandidate, Picked};
-ghost use Rattle.pick.specs.Scanning.{Sought, BestRowAsk};
+ghost use Rattle.std.specs.Prelude.{◌≡◌, ◌+◌, ◌*◌, ◌<◌};
+ghost use Rattle.pick.specs.Choice.{Picked};
+ghost use Rattle.pick.specs.Scanning.{OpenHalf, OpenValues, greater_of, FirstValue, Undecided, LastColumn};
 
-use queue_state::Slab;
 use state_view::StateView;
-use std::cmp::Reverse;
-use value::{Bits, Candidate, Value};
+use value::{Candidate, Value};
 
-// The best cell so far and how many row-half candidates it has.
+// A value of a row.
 #[derive(Clone, Copy)]
-pub struct Best {
-    pub cell: usize,
-    pub free: u32,
+pub struct RowValue {
+    pub row: usize,
+    pub value: usize,
 }
 
-// How many row-half candidates a cell has.
-fn freedom(view: StateView, cell: usize) -> u32
+// The row half of a cell that is open: two or more bits of it are set. Nothing of another.
+fn open_half(view: StateView, cell: usize) -> u16
     requires { cell < 81 }
-    ensures { result ≡ row_choices view.entry.st.now cell }
+    ensures { OpenHalf view.entry.st.now cell result }
 {
-    (view.candidates(cell) & Value::ROW_HALF).count_ones()
+    let half = view.candidates(cell) & Value::ROW_HALF;
+    if half.count_ones() >= 2 { half } else { 0 }
 }
 
-// Goes on through row r, up to a cell with two candidates: one with a choice at all, then the fewest candidates, then the first.
-fn pick_row(view: StateView, r: usize, start: Option<Best>) -> Option<Best>
-    requires { BestRowAsk view.n view.st.now r start }
-    ensures { Sought view.entry.n view.entry.st.now (r * 9 + 9) result }
+// The values that the open cells of row r have.
+fn open_values(view: StateView, r: usize) -> u16
+    requires { r < view.n }
+    ensures { OpenValues view.entry.st.now r view.entry.n result }
 {
-    let mut best = start;
+    let mut values = 0;
     for c in 0..view.n {
-        let cell = r * 9 + c;
-        let free = freedom(view, cell);
-        if free >= 2 && best.is_none_or(|old| free < old.free) {
-            best = Some(Best { cell, free });
-            if free == 2 {
-                return best;
+        values |= open_half(view, r * 9 + c);
+    }
+    values
+}
+
+// The next one if its value is greater than the best so far, else the best.
+fn greater(best: Option<RowValue>, next: RowValue) -> Option<RowValue>
+    ensures { result ≡ greater_of best next }
+{
+    match best {
+        Some(old) if old.value >= next.value => best,
+        _ => Some(next),
+    }
+}
+
+// The first value of the sequence that an open cell of its row has: the right or else the left black of the first row that has one open, or else the greatest
+// digit, in the first row that has it open.
+fn pick_value(view: StateView) -> Option<RowValue>
+    ensures { FirstValue view.entry.n view.entry.st.now result }
+{
+    let mut best: Option<RowValue> = None;
+    for row in 0..view.n {
+        let values = open_values(view, row);
+        if values != 0 {
+            // The blacks are the highest bits, the right one above the left.
+            let value = values.ilog2() as usize;
+            if value >= Value::BLACK1_ROW {
+                return Some(RowValue { row, value });
             }
+            best = greater(best, RowValue { row, value });
         }
     }
     best
 }
 
-fn pick_cell(view: StateView) -> Option<Best>
-    ensures { Sought view.entry.n view.entry.st.now (view.entry.n * 9) result }
+// The last column whose cell in the row is open and has the value.
+fn pick_column(view: StateView, at: RowValue) -> usize
+    requires { Undecided view.n view.st.now at }
+    ensures { LastColumn view.entry.st.now at view.entry.n result }
 {
-    let mut best = None;
-    for r in 0..view.n {
-        best = pick_row(view, r, best);
-        if matches!(best, Some(Best { free: 2, .. })) {
-            return best;
+    let mut column = 0;
+    for c in 0..view.n {
+        if (open_half(view, at.row * 9 + c) >> at.value) % 2 == 1 {
+            column = c;
         }
     }
-    best
+    column
 }
 
-// The row-half candidate of a cell with the least support in its row, the highest among equals.
-fn pick_value(view: StateView, cell: usize) -> Option<usize>
-    requires { (cell < 81) × (0 < row_choices view.st.now cell) }
-    ensures { IsSomeAnd result (RowCandidate view.entry.st.now cell) }
-{
-    let rest = view.candidates(cell) & Value::ROW_HALF;
-    let support = Slab::SUPPORT + cell * 16;
-    Bits { rest }.max_by_key(|&v| Reverse(view.st[support + v]))
-}
-
-// A cell to branch on and the value to take there, or nothing where no cell has a choice.
+// What to branch on, or nothing where no cell has a choice.
 pub fn pick_branch(view: StateView) -> Option<Candidate>
     ensures { Picked view.entry.n view.entry.st.now result }
 {
-    let best = pick_cell(view)?;
-    let value = pick_value(view, best.cell)?;
-    Some(Candidate::at(best.cell, value))
+    let at = pick_value(view)?;
+    let column = pick_column(view, at);
+    Some(Candidate {
+        row: at.row,
+        column,
+        value: at.value,
+    })
 }

@@ -8,7 +8,7 @@ use Rattle.units.specs.declared.Unit.{Unit}
 use Rattle.units.specs.Limits.{hall}
 use Rattle.rules.specs.Grid.{Puzzle, puzzle}
 use Rattle.rules.specs.Mark.{marks_of}
-use Rattle.engine.specs.Answer.{count_answer, solve_answer, SolveWritten}
+use Rattle.engine.specs.Answer.{count_answer, solve_answer, solve_cells}
 use Rattle.host.specs.Number.{count_out, solve_number, TableNumbered}
 use Rattle.record_fields.specs.Fields.{field, record_size, number_from}
 use Rattle.record_fields.specs.Recorded.{Says, CountRecorded, BufferRecorded}
@@ -75,7 +75,7 @@ TableFound r xs = FittingCompared r (TablePromised xs (field xs 4)) xs
 -- What Solve promises of its number and of the cells, before and afterwards.
 abbrev pub CellsPromised : List ℕ → List ℕ → ℕ → List ℕ → Type 0
 CellsPromised xs cells number after =
-    (number ≡ solve_number (solve_answer hall (record_puzzle xs) (marks_in xs) (length cells))) × SolveWritten hall (record_puzzle xs) (marks_in xs) cells after
+    (number ≡ solve_number (solve_answer hall (record_puzzle xs) (marks_in xs) (length cells))) × (after ≡ solve_cells hall (record_puzzle xs) (marks_in xs) cells)
 
 -- What a test of a record of Solve says.
 abbrev pub CellsFound : Bool → List ℕ → Type 0

@@ -19,6 +19,7 @@ use Rattle.rules.proofs.UnitLaws.{plain_checks, hall_puzzle}
 use Rattle.rules.specs.Grid.{puzzle}
 use Rattle.text_rules.specs.Fields.{fields, in_first, value, well_formed, puzzle_from, number_checks, numbers, line_checks}
 use Rattle.text_rules.specs.Text.{refused_word, number_text}
+use Rattle.text_rules.specs.Answered.{line_answer}
 use Rattle.std.specs.Prelude.{Ok, Err}
 use Rattle.text_line.specs.Line.{LineText, LineGiven, TargetsAsk, PuzzleText}
 use Rattle.text_line.proofs.PuzzleTextLaws.{refused_same, front_long}
@@ -110,27 +111,23 @@ module _ (line : List ℕ) where
 
     pub line_text : {n : ℕ} {out l : List ℕ} → (Ok tt ≡ checked (take 2 (number_checks ns))) × (n ≡ get_or ns 0 0)
         → PuzzleText (puzzle n (take n (take (length ns - 1) (drop 1 ns))) (drop n (take (length ns - 1) (drop 1 ns)))) out l → LineText line out l
-    unfolding refusal checked line_checks puzzle_from
+    unfolding refusal checked line_checks puzzle_from line_answer
     line_text {n} {out} {l} p w =
         let v : PuzzleText (puzzle_from (numbers line)) out l = subst (λ ns. PuzzleText (puzzle_from ns) out l) e.1 (form_text ns p.0 p.1 w) in
         let c : refusal (number_checks (numbers line)) ≡ refusal (puzzle_checks hall (puzzle_from (numbers line))) =
         subst (λ ns. refusal (number_checks ns) ≡ refusal (puzzle_checks hall (puzzle_from ns))) e.1 (checks_same ns (form_long ns p.0)) in
         let d : refusal (line_checks line) ≡ refusal (puzzle_checks hall (puzzle_from (numbers line))) = rw e.0 c in
-        record { text = _; answers = record { grid = v.grid; solves = λ z. v.solves (sym d ∙ z); text_is = rw d }; put = v.put }
+        record { text = _; answers = rw d; put = v.put }
 
 module _ {line out : List ℕ} where
   pub refused_text : {l : List ℕ} (k : Refusal) → checked (line_checks line) ≡ Err k
       → l ≡ out ++ (refused_word ++ number_text (refusal_number k)) → LineText line out l
-  unfolding refusal
+  unfolding refusal line_answer
   refused_text k e w =
       let r : refusal (line_checks line) ≡ refusal_number k = ap number_of e in
       record {
         text = refused_word ++ number_text (refusal_number k);
-        answers = record {
-          grid = [];
-          solves = λ z. absurd (number_positive k (sym r ∙ z));
-          text_is = rw r (refused_same (refusal_number k) _ _ _ (number_positive k));
-        };
+        answers = rw r (refused_same (refusal_number k) _ _ _ (number_positive k));
         put = w;
       }
 

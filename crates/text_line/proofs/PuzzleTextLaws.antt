@@ -20,10 +20,12 @@ use Rattle.rules.proofs.GridLaws.{solution_way}
 use Rattle.rules.specs.Check.{checked, answered, refusal, puzzle_checks, count_checks, solve_checks}
 use Rattle.rules.proofs.CheckLaws.{number_positive, passed_number}
 use Rattle.rules.specs.Number.{Verdict as Found, number, verdict_of, Solution}
+use Rattle.rules.specs.Order.{found, first_or}
+use Rattle.grid_order.proofs.FoundLaws.{first_solution, first_same}
 use Rattle.rules.specs.Short.{symbols}
 use Rattle.rules.specs.Size.{Size}
 use Rattle.engine.specs.declared.Verdict.{Verdict}
-use Rattle.engine.specs.Answer.{verdict_on, solve_answer, SolveWritten}
+use Rattle.engine.specs.Answer.{verdict_on, solve_answer, solve_cells}
 use Rattle.text_rules.specs.Text.{refused_word, number_text, answer_text}
 use Rattle.text_answer.specs.Shown.{shown, SolvedAsk}
 use Rattle.text_line.specs.Line.{solved_text, shows_grid, AnswerAsk, SolveTargetsAsk, TargetsAsk, PuzzleText}
@@ -63,21 +65,23 @@ unfolding answer_text
 refused_same zero v n g z = absurd (z refl)
 refused_same (suc k) v n g z = refl
 
-text_same : (r : Result ⊤ Refusal) (m n : ℕ) (g : List ℕ) → solved_text (answered r (verdict_on m)) n g ≡ answer_text (number_of r) (verdict_of m) n g
+-- the grid counts only where one is shown
+text_same : (r : Result ⊤ Refusal) (m n : ℕ) (g h : List ℕ) → (r ≡ Ok tt → 0 < m → g ≡ h) →
+    solved_text (answered r (verdict_on m)) n g ≡ answer_text (number_of r) (verdict_of m) n h
 unfolding answer_text verdict_of
-text_same (Err k) m n g = refused_same (refusal_number k) (verdict_of m) n g (number_positive k)
-text_same (Ok tt) zero n g = refl
-text_same (Ok tt) (suc zero) n g = refl
-text_same (Ok tt) (suc (suc m)) n g = refl
+text_same (Err k) m n g h e = refused_same (refusal_number k) (verdict_of m) n h (number_positive k)
+text_same (Ok tt) zero n g h e = refl
+text_same (Ok tt) (suc zero) n g h e = rw (e refl (omega arith))
+text_same (Ok tt) (suc (suc m)) n g h e = rw (e refl (omega arith))
 
 -- with no marks and cells of the size only the puzzle is checked
 only_puzzle : (p : Puzzle) (len : ℕ) → len ≡ p.size * p.size → checked (solve_checks hall p [] len) ≡ checked (puzzle_checks hall p)
 unfolding checked solve_checks count_checks join
 only_puzzle p len e = rw (eq-eqb len (p.size * p.size) e)
 
-module _ {n : ℕ} {ts : List ℕ} {room : ℕ} {answer : Result Verdict Refusal} {cells cells' : List ℕ} (a : SolveTargetsAsk n ts (length cells) room)
+module _ {n : ℕ} {ts : List ℕ} {room : ℕ} {answer : Result Verdict Refusal} (cells : List ℕ) {cells' : List ℕ} (a : SolveTargetsAsk n ts (length cells) room)
     (s : (answer ≡ solve_answer hall (puzzle n (take n ts) (take (length ts - n) (drop n ts))) (marks_of []) (length cells))
-    × SolveWritten hall (puzzle n (take n ts) (take (length ts - n) (drop n ts))) (marks_of []) cells cells') (long : length cells' ≡ length cells) where
+    × (cells' ≡ solve_cells hall (puzzle n (take n ts) (take (length ts - n) (drop n ts))) (marks_of []) cells)) (long : length cells' ≡ length cells) where
   abbrev p : Puzzle
   p = puzzle n (take n ts) (take (length ts - n) (drop n ts))
 
@@ -91,23 +95,28 @@ module _ {n : ℕ} {ts : List ℕ} {room : ℕ} {answer : Result Verdict Refusal
   unfolding marks_of
   is = s.0 ∙ ap (λ r. answered r (verdict_on (number p []))) accepted
 
-  solution : refusal (puzzle_checks hall p) ≡ 0 → 0 < number p [] → Solution p [] cells'
-  unfolding marks_of refusal
-  solution e h = s.1.written (ap number_of accepted ∙ e) h
+  -- the cells, where the puzzle is not refused and has a grid
+  first_cells : checked (puzzle_checks hall p) ≡ Ok tt → cells' ≡ first_or cells (found p [])
+  unfolding marks_of
+  first_cells e = s.1 ∙ rw (passed_number _ (accepted ∙ e))
 
   pub solve_shown : Size n → AnswerAsk answer cells' room
   solve_shown z =
       record {
-        cells = λ e. let q = shows (checked (puzzle_checks hall p)) (number p []) (sym (ap shows_grid is) ∙ e) in way_shown n z.high (solution_way (solution (passed_number _ q.0) q.1));
+        cells = λ e.
+            let q = shows (checked (puzzle_checks hall p)) (number p []) (sym (ap shows_grid is) ∙ e) in
+            let f = first_solution p [] q.1 cells in
+            way_shown n z.high (subst (Way (symbols n) (n * n)) (sym (first_cells q.0)) (solution_way f));
         fits = a.fits;
       }
 
   pub solve_text : {out l : List ℕ} → l ≡ out ++ solved_text answer n cells' → PuzzleText (puzzle n (take n ts) (drop n ts)) out l
   unfolding refusal
   solve_text {out} {l} w =
-      let e : solved_text answer n cells' ≡ answer_text (refusal (puzzle_checks hall p)) (verdict_of (number p [])) n cells' =
-      ap (λ x. solved_text x n cells') is ∙ text_same (checked (puzzle_checks hall p)) (number p []) n cells' in
-      let t : PuzzleText p out l = record { grid = cells'; solves = solution; put = w ∙ ap (λ x. out ++ x) e } in
+      let e : solved_text answer n cells' ≡ answer_text (refusal (puzzle_checks hall p)) (verdict_of (number p [])) n (first_or [] (found p [])) =
+      ap (λ x. solved_text x n cells') is ∙ text_same (checked (puzzle_checks hall p)) (number p []) n cells' (first_or [] (found p []))
+      (λ q h. first_cells q ∙ first_same p [] h cells []) in
+      let t : PuzzleText p out l = record { put = w ∙ ap (λ x. out ++ x) e } in
       subst (λ q. PuzzleText q out l) same t
 
 -- ---- what the calls ask

@@ -6,7 +6,8 @@ use Rattle.refusal.specs.Number.{refusal_number}
 use Rattle.units.specs.Limits.{hall}
 use Rattle.rules.specs.Grid.{Puzzle}
 use Rattle.rules.specs.Check.{checked, refusal, puzzle_checks}
-use Rattle.rules.specs.Number.{number, verdict_of, Solution}
+use Rattle.rules.specs.Number.{number, verdict_of}
+use Rattle.rules.specs.Order.{found, first_or}
 use Rattle.engine.specs.declared.Verdict.{Verdict}
 use Rattle.engine.specs.declared.Verdict.TheVariants.{Unsolvable, Unique, Multiple}
 use Rattle.text_rules.specs.Fields.{line_checks}
@@ -59,9 +60,7 @@ pub record TargetsAsk (n : ℕ) (targets : List ℕ) (room : ℕ) : Type 0 where
 
 -- A text that answers the puzzle is appended.
 pub record PuzzleText (p : Puzzle) (out out' : List ℕ) : Type 0 where
-  pub grid : List ℕ
-  pub solves : refusal (puzzle_checks hall p) ≡ 0 → 0 < number p [] → Solution p [] grid
-  pub put : out' ≡ out ++ answer_text (refusal (puzzle_checks hall p)) (verdict_of (number p [])) p.size grid
+  pub put : out' ≡ out ++ answer_text (refusal (puzzle_checks hall p)) (verdict_of (number p [])) p.size (first_or [] (found p []))
 
 -- A text that answers the line is appended, or the line is refused and nothing is appended.
 abbrev pub LineChecked : {T : Type 0} → (line out out' : List ℕ) → Result T Refusal → Type 0

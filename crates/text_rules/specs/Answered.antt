@@ -1,13 +1,16 @@
--- When a text answers a line. Assumes nothing.
-use Rattle.std.specs.Prelude.{ℕ, ◌<◌, ◌≡◌, List, []}
+-- The answer to a line. Assumes nothing.
+use Rattle.std.specs.Prelude.{ℕ, ◌≡◌, List, []}
 use Rattle.rules.specs.Check.{refusal}
-use Rattle.rules.specs.Number.{number, verdict_of, Solution}
+use Rattle.rules.specs.Number.{number, verdict_of}
+use Rattle.rules.specs.Order.{found, first_or}
 use Rattle.text_rules.specs.Fields.{puzzle_of, line_checks}
 use Rattle.text_rules.specs.Text.{answer_text}
 
--- The text is that of the line's refusal, of the verdict on its puzzle, and of a grid that solves it. Which of several grids `multiple` shows is the
--- one thing left open.
-pub record Answered (line text : List ℕ) : Type 0 where
-  pub grid : List ℕ
-  pub solves : refusal (line_checks line) ≡ 0 → 0 < number (puzzle_of line) [] → Solution (puzzle_of line) [] grid
-  pub text_is : text ≡ answer_text (refusal (line_checks line)) (verdict_of (number (puzzle_of line) [])) (puzzle_of line).size grid
+-- The text of the line's refusal, or of the verdict on its puzzle and the first of the grids in order.
+unfoldable pub line_answer : List ℕ → List ℕ
+line_answer line =
+    answer_text (refusal (line_checks line)) (verdict_of (number (puzzle_of line) [])) (puzzle_of line).size (first_or [] (found (puzzle_of line) []))
+
+-- The text answers the line.
+abbrev pub Answered : List ℕ → List ℕ → Type 0
+Answered line text = text ≡ line_answer line

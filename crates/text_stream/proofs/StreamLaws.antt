@@ -12,7 +12,8 @@ use Rattle.rules.proofs.CheckLaws.{refusal_none}
 use Rattle.rules.proofs.SizeLaws.{size_in}
 use Rattle.text_rules.specs.Fields.{well_formed, puzzle_from, puzzle_of, number_checks, line_checks}
 use Rattle.text_rules.specs.Text.{refused_word, number_text, answer_text}
-use Rattle.text_rules.specs.Answered.{Answered}
+use Rattle.rules.specs.Order.{found, first_or}
+use Rattle.text_rules.specs.Answered.{line_answer, Answered}
 use Rattle.text_rules.specs.Stream.{line_end, Written, nothing, byte, ended}
 use Rattle.text_answer.proofs.RowLaws.{grid_short}
 
@@ -22,19 +23,10 @@ refused_11 : (line : List ℕ) → 80 < length line → refusal (line_checks lin
 unfolding refusal checked line_checks well_formed
 refused_11 line h = rw (lt-leb (length line) 80 h)
 
-same_text : (line : List ℕ) {text : List ℕ} → 80 < length line → Answered line text → text ≡ refused_word ++ number_text 11
-unfolding answer_text
-same_text line h a =
-    a.text_is ∙ ap (λ k. answer_text k (verdict_of (number (puzzle_of line) [])) (puzzle_of line).size a.grid) (refused_11 line h)
-
-too_long : (line : List ℕ) → 80 < length line → Answered line (refused_word ++ number_text 11)
-unfolding answer_text
+too_long : (line : List ℕ) → 80 < length line → line_answer line ≡ refused_word ++ number_text 11
+unfolding line_answer answer_text
 too_long line h =
-    record {
-      grid = [];
-      solves = λ q. absurd (omega (arith, refused_11 line h));
-      text_is = sym (ap (λ k. answer_text k (verdict_of (number (puzzle_of line) [])) (puzzle_of line).size []) (refused_11 line h));
-    }
+    ap (λ k. answer_text k (verdict_of (number (puzzle_of line) [])) (puzzle_of line).size (first_or [] (found (puzzle_of line) []))) (refused_11 line h)
 
 pub answered_kept : (line text : List ℕ) → Answered (take 81 line) text → Answered line text
 answered_kept line text a = go (dec_lt (length line) 81)
@@ -42,7 +34,7 @@ answered_kept line text a = go (dec_lt (length line) 81)
     go : Dec (length line < 81) → Answered line text
     go (yes h) = subst (λ l. Answered l text) (take_all 81 line (omega arith)) a
     go (no h) =
-        subst (Answered line) (sym (same_text (take 81 line) (rw (length-take 81 line) (omega arith)) a)) (too_long line (omega arith))
+        a ∙ too_long (take 81 line) (rw (length-take 81 line) (omega arith)) ∙ sym (too_long line (omega arith))
 
 -- ---- how long a text is
 
@@ -63,9 +55,10 @@ unfolding line_checks number_checks puzzle_from
 size_small line e = (size_in _ (refusal_none Size _ _ (refusal_none TextLine _ _ e).1).0).high
 
 pub answered_short : (line text : List ℕ) → Answered line text → length text ≤ 100
+unfolding line_answer
 answered_short line text a =
-    let short = text_short _ (verdict_of (number (puzzle_of line) [])) (puzzle_of line).size a.grid (size_small line) in
-    omega (arith, ap length a.text_is, short)
+    let short = text_short _ (verdict_of (number (puzzle_of line) [])) (puzzle_of line).size (first_or [] (found (puzzle_of line) [])) (size_small line) in
+    omega (arith, ap length a, short)
 
 -- ---- one stream behind another
 

@@ -7,13 +7,19 @@ use lib.ListN.{length}
 use Prim.Native.Nat.{ℕ, ◌*◌}
 use Rattle.tally.proofs.TallyLaws.{and_left}
 use Rattle.backtrack.specs.Search.{SearchAsk}
-use Rattle.backtrack.proofs.SearchLaws.{Turn, turn_one, turn_ask, turn_searchable, turn_fewer, turn_less, turn_again}
+use Rattle.backtrack.proofs.SearchLaws.{Turn, turn_start, turn_capped, turn_one, turn_ask, turn_searchable, turn_fewer, turn_less, turn_again}
 use Rattle.backtrack.proofs.+search.Goals as goal
 
 -- the cells have room if the next grid is the first that is wanted
 first_fits : {n : ℕ} {l₀ l : List ℕ} {max found : ℕ} {wanted first : Bool} {cells₀ cells : List ℕ} → Turn n l₀ max wanted cells₀ l found cells →
     SearchAsk n l₀ wanted (length cells₀) → first ≡ (wanted && eqb found 0) → first ≡ true → length cells ≡ n * n
 first_fits t s f e = t.room ∙ s.fits (and_left _ _ (sym f ∙ e))
+
+pub loop-found-init : goal.loop-found-init
+loop-found-init t c = turn_start c.args.max c.requires
+
+pub returns : goal.returns
+returns t c = turn_capped c.loop-found.invariant c.loop-found-test.false
 
 pub returns-in-Settled : goal.returns-in-Settled
 returns-in-Settled t c = turn_one c.loop-found.invariant c.loop-found-test.true c.in-Settled.ensures c.is_first-first.ensures c.settle.ensures

@@ -15,7 +15,7 @@ pub returns-in-Some : goal.returns-in-Some
 returns-in-Some c =
     let pre = c.requires in
     let b = c.in-Some.ensures in
-    (b.0, b.1, advance_branch pre.ready.size.high c.if-is_err.ensures.negation c.propagate.ensures b.2)
+    advance_branch pre.ready.size.high c.if-is_err.ensures.negation c.propagate.ensures b
 
 pub returns-in-None : goal.returns-in-None
 returns-in-None c =

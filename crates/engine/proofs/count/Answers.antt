@@ -11,4 +11,4 @@ returns-in_err-question c =
 pub returns : goal.returns
 returns c =
     let e = c.in_ok-question.ensures in
-    count_done _ _ _ _ _ e.0 (rw (e.1.0, e.1.1) at c.find_grids.ensures.count)
+    count_done _ _ _ _ _ e.0 (rw (e.1.0, e.1.1) at c.find_grids.ensures.capped_count)

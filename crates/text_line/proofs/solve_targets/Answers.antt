@@ -11,7 +11,7 @@ pub invariant_of-write_answer : goal.invariant_of-write_answer
 invariant_of-write_answer g c = record { few = c.args.size.fits.high; square = c.solve-answer.auto.cells ∙ c.requires.square }
 
 pub write_answer-requires : goal.write_answer-requires
-write_answer-requires g c = (search rules, solve_shown c.requires (rw c.hall.ensures at c.solve-answer.ensures) c.solve-answer.auto.cells c.args.size.fits)
+write_answer-requires g c = (search rules, solve_shown _ c.requires (rw c.hall.ensures at c.solve-answer.ensures) c.solve-answer.auto.cells c.args.size.fits)
 
 pub returns : goal.returns
-returns g c = solve_text c.requires (rw c.hall.ensures at c.solve-answer.ensures) c.solve-answer.auto.cells c.write_answer.ensures
+returns g c = solve_text _ c.requires (rw c.hall.ensures at c.solve-answer.ensures) c.solve-answer.auto.cells c.write_answer.ensures
