@@ -1,9 +1,8 @@
 -- The same input in two units that both take it. What a unit refuses by its limits stands with the checks: crates/rules/proofs/UnitLaws.antt. Assumes
 -- nothing.
-use Rattle.std.specs.Prelude.{⊤, ℕ, ◌≤◌, ◌<◌, ◌≡◌, ◌⊎◌, true, cond, eqb, List, length, Result, Ok, Err}
+use Rattle.std.specs.Prelude.{⊤, ℕ, ◌<◌, ◌≡◌, ◌⊎◌, true, cond, eqb, List, length, Result, Ok, Err}
 use Rattle.std.proofs.Math.Path.{refl, sym, ap}
-use Rattle.std.proofs.Common.{◌∙◌, inl, inr, ⊎_elim, arith}
-use Rattle.std.proofs.Math.Decide.{ℕ_discrete}
+use Rattle.std.proofs.Common.{◌∙◌, inl, inr, arith}
 use Rattle.refusal.specs.declared.Refusal.{Refusal}
 use Rattle.units.specs.declared.Unit.{Unit}
 use Rattle.units.specs.Limits.{takes_size, takes_list}
@@ -13,10 +12,8 @@ use Rattle.rules.specs.Number.{number, capped}
 use Rattle.rules.specs.Order.{found, first_or}
 use Rattle.rules.specs.Sums.{summed_as, target_sums}
 use Rattle.rules.proofs.UnitLaws.{alike_sums, alike_sheet, alike_count, alike_solve}
-use Rattle.number.specs.VerdictLaws.{one_only}
 use Rattle.sheet_marking.specs.Answer.{mark_sheet}
 use Rattle.engine.specs.Answer.{count_answer, verdict_on, solve_answer, solve_cells}
-use Rattle.engine.proofs.SolveLaws.{solve_asked}
 use Rattle.candidates.specs.declared.Outcome.{Outcome}
 use Rattle.candidates.specs.declared.Outcome.TheVariants.{Contradicted, Written}
 use Rattle.candidates.specs.Remaining.{WrittenTable, TableGiven}
