@@ -1,18 +1,19 @@
 -- The grids that are found: which, how many, in which order, and how marks change them. Assumes nothing.
-use Prim.Native.Nat.{ℕ, ◌≤◌, ◌<◌}
-use mathlib.Core.Path.{◌≡◌, refl, sym, ap, ◌∙◌}
+use Prim.Native.Nat.{ℕ, ◌*◌, ◌≤◌, ◌<◌}
+use mathlib.Core.Path.{◌≡◌, refl, sym, ap, ◌∙◌, subst}
 use mathlib.Core.Bool.{true, ◌&&◌, and_assoc, and_comm}
 use mathlib.Core.List.{List, [], ◌∷◌, Memᴰ, Permᴰ}
 use native.Mathlib.Omega.{arith}
 use lib.ListN.{length}
-use Rattle.tally.specs.Tally.{all, keep, sort, ordered}
-use Rattle.tally.proofs.TallyLaws.{all_perm}
-use Rattle.tally.proofs.ListLaws.{mem_keep, of_keep, keep_ext, keep_keep, length_keep, sort_length, mem_sort, of_sort, sort_ordered, keep_sort}
+use Rattle.tally.specs.Tally.{all, count, keep, sort, ordered}
+use Rattle.tally.proofs.TallyLaws.{and_right, and_both, test_ext, all_perm, count_ext, same_list, same_eq, count_same}
+use Rattle.tally.proofs.ListLaws.{mem_keep, of_keep, keep_ext, keep_keep, length_keep, sort_length, sort_count, mem_sort, of_sort, sort_ordered, keep_sort}
 use Rattle.rules.specs.Grid.{Puzzle, keeps}
 use Rattle.rules.specs.Mark.{keeps_mark}
 use Rattle.rules.specs.Number.{Solution, grids, solves, number}
 use Rattle.rules.specs.Order.{sequence, precedes, in_order, found, first_or}
-use Rattle.rules.specs.Short.{keeps_marks}
+use Rattle.rules.specs.Short.{symbols, keeps_marks}
+use Rattle.rules.proofs.GridLaws.{symbols_once, solution_way}
 use Rattle.table.specs.Table.{Table, fits}
 use Rattle.table.specs.Steps.{marked_all}
 use Rattle.soundness.specs.Marks.{AcceptedMark, Whole}
@@ -36,6 +37,18 @@ module _ (p : Puzzle) (ms : List ℕ) where
   pub found_length : length (found p ms) ≡ number p ms
   unfolding found in_order number
   found_length = sort_length (precedes p.size (sequence p.size)) (keep (solves p ms) (grids p.size)) ∙ length_keep (solves p ms) (grids p.size)
+
+  -- each of them once
+  pub found_once : p.size ≤ 9 → {g : List ℕ} → Solution p ms g → count (same_list g) (found p ms) ≡ 1
+  unfolding found in_order grids
+  found_once small {g} s =
+      sort_count (precedes p.size (sequence p.size)) (same_list g) (keep (solves p ms) (grids p.size))
+      ∙ sym (length_keep (same_list g) (keep (solves p ms) (grids p.size)))
+      ∙ ap length (keep_keep (solves p ms) (same_list g) (grids p.size))
+      ∙ length_keep (λ h. solves p ms h && same_list g h) (grids p.size)
+      ∙ count_ext (λ h. test_ext (solves p ms h && same_list g h) (same_list g h) (and_right (solves p ms h) (same_list g h))
+      (λ t. and_both (subst (λ x. solves p ms x ≡ true) (same_eq g h t) s.right) t)) (grids p.size)
+      ∙ count_same (symbols p.size) (symbols_once p.size small) (p.size * p.size) (solution_way s)
 
   pub found_ordered : ordered (precedes p.size (sequence p.size)) (found p ms) ≡ true
   unfolding found in_order

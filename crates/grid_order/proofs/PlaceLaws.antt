@@ -1,12 +1,14 @@
 -- Where a grid of a puzzle has the values of its rows. Assumes nothing.
 use Prim.Native.Nat.{ℕ, ◌≤◌, ◌<◌}
 use mathlib.Core.Path.{◌≡◌, sym, ◌∙◌}
-use mathlib.Core.Bool.{true, true≢false}
+use mathlib.Core.Bool.{Bool, true, true≢false}
 use mathlib.Core.List.{List, Memᴰ}
 use native.Mathlib.Omega.{arith}
 use native.Mathlib.Decide.{ℕ_discrete}
-use Rattle.tally.proofs.TallyLaws.{false_of}
-use Rattle.tally.proofs.ListLaws.{first_at}
+use Rattle.tally.specs.Tally.{span}
+use Rattle.tally.proofs.TallyLaws.{span_in, span_mem}
+use Rattle.tally.proofs.ListLaws.{first_passes}
+use Rattle.line_laws.proofs.Lists.{count_pos}
 use Rattle.rules.specs.Grid.{across, index, Puzzle}
 use Rattle.rules.specs.Mark.{has}
 use Rattle.rules.specs.Order.{RowValue, place_of}
@@ -30,8 +32,9 @@ module _ (p : Puzzle) (small : p.size ≤ 9) where
     pub place_is : (i : ℕ) → i < p.size → has p.size g s.row i s.value ≡ true → place_of p.size g s ≡ i
     unfolding place_of index row_of column_of first_black
     place_is i k e =
-        first_at (λ c. has p.size g s.row c s.value) p.size 0 p.size i (omega arith) (omega arith) e
-        (λ j _ u. false_of (has p.size g s.row j s.value) (λ q. let z = once_in_line p small g d (across s.row) h j i (omega arith) k s.value m q e in omega arith))
+        let there : ℕ → Bool = λ c. has p.size g s.row c s.value in
+        let f = first_passes there p.size (span 0 p.size) (count_pos there (span_mem 0 p.size i (omega arith) (omega arith)) e) in
+        once_in_line p small g d (across s.row) h _ i (omega (arith, span_in 0 p.size _ f.0)) k s.value m f.1 e
 
     pub place_has : (t : Table) → fits p.size t g ≡ true → (i : ℕ) × (i < p.size) × (has p.size g s.row i s.value ≡ true) × (place_of p.size g s ≡ i) × (t s.row i s.value ≡ true)
     unfolding index row_of column_of first_black places

@@ -98,6 +98,3 @@ module _ {n : ℕ} {l : List ℕ} (s : Ready n l) where
       let same : (v : ℕ) → one_if (test v) ≡ cand l x v = λ v. as_test (cand l x v) (cand_lt l x v) in
       let low = count_sum test 1 (n - 2) ∙ sum_same 1 (n - 2) (λ v. one_if (test v)) (cand l x) (λ v a b. same v) in
       count_append test (span 1 (n - 2)) (8 ∷ 9 ∷ []) ∙ omega (arith, same 8, same 9, half_sum x)
-
-  pub row_choices_at : (x : ℕ) → choices n 8 (table_in l (x / 9) (x % 9)) ≡ row_choices l x
-  row_choices_at x = row_choices_lem (x / 9) (x % 9) ∙ ap (row_choices l) (omega arith)

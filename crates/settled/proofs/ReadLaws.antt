@@ -15,30 +15,12 @@ use Rattle.rules.proofs.GridLaws.{place_lt}
 use Rattle.rules.specs.Short.{symbols}
 use Rattle.table.specs.Table.{Table, places, half}
 use Rattle.table.specs.Reading.{choices, read_cell, read_off}
+use Rattle.tally.proofs.ListLaws.{first_cases, first_passes, first_none}
 use Rattle.line_laws.proofs.Lists.{count_pos, count_sole, once_same, map_on}
 use Rattle.line_laws.proofs.Half.{digit_range, HalfValue, a_digit, a_first, a_second, half_value, digit_in, half_once}
 use Rattle.line_laws.proofs.SettledLine.{Settled, symbol_of, cell_digit, cell_black}
 use Rattle.line_laws.proofs.GridLines.{place_in, line_map, places_cell}
 use Rattle.table.specs.Lines.{row_of, column_of}
-
--- ---- the first element that passes
-
--- It is an element that passes, or none does and it is the default.
-first_cases : (q : ℕ → Bool) (d : ℕ) (xs : List ℕ) → (Memᴰ (first q d xs) xs × (q (first q d xs) ≡ true)) ⊎ ((count q xs ≡ 0) × (first q d xs ≡ d))
-unfolding first count
-first_cases q d [] = inr (refl, refl)
-first_cases q d (x ∷ xs) = go (q x) refl (first_cases q d xs)
-  where
-    go : (b : Bool) → q x ≡ b → (Memᴰ (first q d xs) xs × (q (first q d xs) ≡ true)) ⊎ ((count q xs ≡ 0) × (first q d xs ≡ d)) →
-        (Memᴰ (cond b x (first q d xs)) (x ∷ xs) × (q (cond b x (first q d xs)) ≡ true)) ⊎ ((one_if b + count q xs ≡ 0) × (cond b x (first q d xs) ≡ d))
-    go true e r = inl (Memᴰ.head refl, e)
-    go false e r = ⊎_elim (λ w. inl (Memᴰ.tail w.0, w.1)) (λ w. inr (omega (arith, w.0), w.1)) r
-
-pub first_passes : (q : ℕ → Bool) (d : ℕ) (xs : List ℕ) → 0 < count q xs → Memᴰ (first q d xs) xs × (q (first q d xs) ≡ true)
-first_passes q d xs h = ⊎_elim (λ w. w) (λ w. absurd (omega (arith, w.0))) (first_cases q d xs)
-
-first_none : (q : ℕ → Bool) (d : ℕ) (xs : List ℕ) → ((x : ℕ) → Memᴰ x xs → q x ≡ true → ⊥) → first q d xs ≡ d
-first_none q d xs h = ⊎_elim (λ w. absurd (h (first q d xs) w.0 w.1)) (λ w. w.1) (first_cases q d xs)
 
 -- ---- a settled half
 

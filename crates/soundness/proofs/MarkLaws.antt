@@ -104,15 +104,6 @@ module _ (p : Puzzle) (small : p.size ≤ 9) (t : Table) where
         count_grids p (keeps_marks p.size ms) (fits p.size (marked_all t ms))
         (λ g d. sym (marks_fits p small t ms a g d ∙ ap (λ b. b && keeps_marks p.size ms g) (w.whole g d)))
 
-    -- A grid that fits a table within keeps the marks.
-    pub within_marks : {u : Table} → Within p.size u (marked_all t ms) → (g : List ℕ) → GridOf p g → fits p.size u g ≡ true →
-        keeps_marks p.size ms g ≡ true
-    within_marks w g d f = and_right (fits p.size t g) _ (sym (marks_fits p small t ms a g d) ∙ within_fits p small w g d f)
-
-    pub within_solution : {u : Table} → Within p.size u (marked_all t ms) → (g : List ℕ) → GridOf p g → fits p.size u g ≡ true → Solution p ms g
-    unfolding solves
-    within_solution w g d f = way_solution d.filled (and_both d.kept (within_marks w g d f))
-
 -- ---- which candidates marks leave
 
 marked_kept : (t : Table) (m i j w : ℕ) → marked t m i j w ≡ true → t i j w ≡ true

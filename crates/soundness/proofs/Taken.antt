@@ -234,7 +234,7 @@ module _ (p : Puzzle) (small : p.size ≤ 9) (t : Table) (r c v : ℕ) (hr : r <
       let e : has n g r c v ≡ true = rw (eqb-true i r (and_left _ _ q), eqb-true j c (and_left _ _ y), eqb-true w v (and_right (eqb j c) _ y)) at s in
       true≢false (sym e ∙ not-true (has n g r c v) (and_right (fits n t g) _ f)))))))
 
-  -- A branch shares the grids out: those with the value, and those without.
+  -- A branch, whichever cell and value it takes, shares the grids out: those with the value, and those without.
   pub branch_left : left p t ≡ left p (taken t r c v) + left p (struck t r c v)
   unfolding left
   branch_left =
@@ -250,7 +250,3 @@ module _ (p : Puzzle) (small : p.size ≤ 9) (t : Table) (r c v : ℕ) (hr : r <
       shared : (q : List ℕ → Bool) (u : Table) → ((g : List ℕ) → GridOf p g → fits n u g ≡ (fits n t g && q g)) →
           count (λ g. keeps p g && fits n t g && q g) (grids n) ≡ count (λ g. keeps p g && fits n u g) (grids n)
       shared q u h = count_ext (λ g. and_assoc (keeps p g) (fits n t g) (q g)) (grids n) ∙ sym (count_grids p (fits n u) (λ g. fits n t g && q g) h)
-
-  -- The same under a cap: the second branch gets what the first leaves of it.
-  pub branch_capped : (cap : ℕ) → min cap (left p t) ≡ min cap (left p (taken t r c v)) + min (cap - min cap (left p (taken t r c v))) (left p (struck t r c v))
-  branch_capped cap = ap (min cap) branch_left ∙ cap_split cap (left p (taken t r c v)) (left p (struck t r c v))

@@ -1,34 +1,36 @@
--- What is kept of a list, the first of a run of numbers that passes a test, and sorted lists: what they hold, and two parts of one. Assumes nothing.
-use Prim.Native.Nat.{ℕ, zero, suc, ◌+◌, ◌≤◌, ◌<◌}
+-- What is kept of a list, the first element that passes a test, and sorted lists: what they hold, and two parts of one. Assumes nothing.
+use Prim.Native.Nat.{ℕ, suc, ◌+◌, ◌<◌}
 use mathlib.Core.Path.{◌≡◌, refl, sym, ap, ◌∙◌, subst}
 use mathlib.Core.Bool.{Bool, true, false, not, ◌&&◌, cond}
 use mathlib.Core.Logic.{◌⊎◌, inl, inr, ⊎_elim}
 use mathlib.Core.List.{List, [], ◌∷◌, ◌++◌, Memᴰ}
 use mathlib.Core.List.Memᴰ
 use native.Mathlib.Omega.{arith}
-use native.Mathlib.Decide.{ℕ_discrete}
 use lib.ListN.{length}
 use borrow.Author.Tests.{not-true}
-use Rattle.tally.specs.Tally.{one_if, span, all, count, keep, first, insert, sort, ordered}
+use Rattle.tally.specs.Tally.{one_if, all, count, keep, first, insert, sort, ordered}
 use Rattle.tally.proofs.TallyLaws.{and_left, and_right, and_both}
 use Rattle.tally.proofs.WayLaws.{all_each, all_in}
 
 -- ---- the first that passes
 
-module _ (q : ℕ → Bool) (d : ℕ) where
-  pub first_none : (a k : ℕ) → ((j : ℕ) → a ≤ j → j < a + k → q j ≡ false) → first q d (span a k) ≡ d
-  unfolding first span
-  first_none a zero e = refl
-  first_none a (suc k) e = rw (e a (omega arith) (omega arith)) (first_none (suc a) k (λ j h g. e j (omega arith) (omega arith)))
+module _ {A : Type 0} (q : A → Bool) (d : A) where
+  -- It is an element that passes, or none does and it is the default.
+  pub first_cases : (xs : List A) → (Memᴰ (first q d xs) xs × (q (first q d xs) ≡ true)) ⊎ ((count q xs ≡ 0) × (first q d xs ≡ d))
+  unfolding first count
+  first_cases [] = inr (refl, refl)
+  first_cases (x ∷ xs) = go (q x) refl (first_cases xs)
+    where
+      go : (b : Bool) → q x ≡ b → (Memᴰ (first q d xs) xs × (q (first q d xs) ≡ true)) ⊎ ((count q xs ≡ 0) × (first q d xs ≡ d)) →
+          (Memᴰ (cond b x (first q d xs)) (x ∷ xs) × (q (cond b x (first q d xs)) ≡ true)) ⊎ ((one_if b + count q xs ≡ 0) × (cond b x (first q d xs) ≡ d))
+      go true e r = inl (Memᴰ.head refl, e)
+      go false e r = ⊎_elim (λ w. inl (Memᴰ.tail w.0, w.1)) (λ w. inr (omega (arith, w.0), w.1)) r
 
-  pub first_at : (a k t : ℕ) → a ≤ t → t < a + k → q t ≡ true → ((j : ℕ) → a ≤ j → j < t → q j ≡ false) → first q d (span a k) ≡ t
-  unfolding first span
-  first_at a zero t h g p e = absurd (omega arith)
-  first_at a (suc k) t h g p e =
-      elim (ℕ_discrete a t) [
-        | yes z ↦ rw (z, p)
-        | no z ↦ rw (e a (omega arith) (omega arith)) (first_at (suc a) k t (omega arith) (omega arith) p (λ j u v. e j (omega arith) v))
-      ]
+  pub first_passes : (xs : List A) → 0 < count q xs → Memᴰ (first q d xs) xs × (q (first q d xs) ≡ true)
+  first_passes xs h = ⊎_elim (λ w. w) (λ w. absurd (omega (arith, w.0))) (first_cases xs)
+
+  pub first_none : (xs : List A) → ((x : A) → Memᴰ x xs → q x ≡ true → ⊥) → first q d xs ≡ d
+  first_none xs h = ⊎_elim (λ w. absurd (h (first q d xs) w.0 w.1)) (λ w. w.1) (first_cases xs)
 
 module _ {A : Type 0} where
   -- ---- what is kept of a list
@@ -88,6 +90,20 @@ module _ {A : Type 0} where
     unfolding sort
     sort_length [] = refl
     sort_length (x ∷ xs) = insert_length x (sort precedes xs) ∙ ap suc (sort_length xs)
+
+    insert_count : (q : A → Bool) (x : A) (xs : List A) → count q (insert precedes x xs) ≡ one_if (q x) + count q xs
+    unfolding insert count
+    insert_count q x [] = refl
+    insert_count q x (y ∷ ys) = go (precedes x y) (insert precedes x ys) (insert_count q x ys)
+      where
+        go : (b : Bool) (l : List A) → count q l ≡ one_if (q x) + count q ys → count q (cond b (x ∷ y ∷ ys) (y ∷ l)) ≡ one_if (q x) + (one_if (q y) + count q ys)
+        go true l e = refl
+        go false l e = omega (arith, e)
+
+    pub sort_count : (q : A → Bool) (xs : List A) → count q (sort precedes xs) ≡ count q xs
+    unfolding sort count
+    sort_count q [] = refl
+    sort_count q (x ∷ xs) = insert_count q x (sort precedes xs) ∙ ap (λ k. one_if (q x) + k) (sort_count q xs)
 
     insert_here : (x : A) (ys : List A) → Memᴰ x (insert precedes x ys)
     unfolding insert

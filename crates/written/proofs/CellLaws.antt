@@ -2,7 +2,7 @@
 use Prim.Native.Nat.{ℕ, zero, suc, ◌+◌, ◌-◌, ◌*◌, ◌^◌, ◌≤◌, ◌<◌}
 use mathlib.Core.Path.{◌≡◌, refl, sym, ap, ◌∙◌}
 use mathlib.Core.Logic.{⊎_elim}
-use mathlib.Core.Bool.{Bool, true, false}
+use mathlib.Core.Bool.{Bool, true, false, true≢false}
 use mathlib.Core.List.{List}
 use native.Mathlib.Omega.{arith}
 use native.Mathlib.Decide.{ℕ_discrete, dec_lt}
@@ -12,8 +12,8 @@ use lib.Bits.{bit_and, and_lt}
 use lib.Count.{count_trailing_zeros}
 use borrow.Author.Tests.{eqb-true, eq-eqb, ne_eqb}
 use Rattle.tally.specs.Tally.{span, all, first}
-use Rattle.tally.proofs.TallyLaws.{span_mem}
-use Rattle.tally.proofs.ListLaws.{first_none, first_at}
+use Rattle.tally.proofs.TallyLaws.{span_in, span_mem}
+use Rattle.tally.proofs.ListLaws.{first_none}
 use Rattle.tally.proofs.WayLaws.{all_each}
 use Rattle.rules.specs.Grid.{digits}
 use Rattle.table.specs.Reading.{read_cell}
@@ -24,6 +24,15 @@ use Rattle.queue_state.proofs.SlabLaws.{cand_in}
 use Rattle.queue_state.proofs.ReadyLaws.{ready_valid}
 use Rattle.queue_state.specs.Ready.{Ready}
 use Rattle.table.specs.Value.{ValueOf}
+
+first_at : (q : ℕ → Bool) (d a k t : ℕ) → a ≤ t → t < a + k → q t ≡ true → ((j : ℕ) → a ≤ j → j < t → q j ≡ false) → first q d (span a k) ≡ t
+unfolding first span
+first_at q d a zero t h g p e = absurd (omega arith)
+first_at q d a (suc k) t h g p e =
+    elim (ℕ_discrete a t) [
+      | yes z ↦ rw (z, p)
+      | no z ↦ rw (e a (omega arith) (omega arith)) (first_at q d (suc a) k t (omega arith) (omega arith) p (λ j u v. e j (omega arith) v))
+    ]
 
 -- the bits of the digits
 digit_mask : (v : ℕ) → 1 ≤ v → v < 8 → bit v 254 ≡ 1
@@ -66,7 +75,7 @@ module _ {n : ℕ} {l : List ℕ} {r c : ℕ} (s : Ready n l) (row : r < n) (col
   pub read_black : bit_and m 254 ≡ 0 → 255 ≡ read_cell n (table_in l r c)
   unfolding read_cell digits
   read_black e =
-      sym (first_none (table_in l r c) 255 1 (n - 2) (λ v h g. absent v h (omega (arith, s.size.low)) (ap (bit v) e ∙ bit_none v)))
+      sym (first_none (table_in l r c) 255 (span 1 (n - 2)) (λ v k t. let h = span_in 1 (n - 2) v k in true≢false (sym t ∙ absent v h.0 (omega (arith, h.1, s.size.low)) (ap (bit v) e ∙ bit_none v))))
 
   module _ (f : m < 2 ^ 16) (some : (bit_and m 254 ≡ 0) → ⊥) where
     abbrev t : ℕ
