@@ -160,7 +160,9 @@ uint8_t doppelblock_count(size_t size,
 
 /*
  * Whether no grid, one or more keep the puzzle and every mark. If there is one,
- * the first that the search finds is written into `cells`.
+ * the first is written into `cells`: going over the right and the left black of
+ * each row from the top, then over the digits from the greatest down, each in
+ * the rows from the top, that which stands further right where grids differ.
  *
  * Returns DOPPELBLOCK_UNSOLVABLE, DOPPELBLOCK_UNIQUE, DOPPELBLOCK_MULTIPLE or a
  * refusal, checked in this order: 1, 18, 2, 3, 19 (18 and 19 never due in the

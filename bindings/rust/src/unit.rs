@@ -119,7 +119,10 @@ impl Unit {
     }
 
     /// Whether no grid, one or more keep the puzzle and every mark. If there is
-    /// one, the first that the search finds is written into `cells`.
+    /// one, the first is written into `cells`: going over the right and the left
+    /// black of each row from the top, then over the digits from the greatest
+    /// down, each in the rows from the top, that which stands further right where
+    /// grids differ.
     ///
     /// # Errors
     ///
