@@ -3,6 +3,7 @@ pub mod CheckLaws
 pub mod EachLaws
 pub mod GridLaws
 pub mod InsideLaws
+mod OrderFacts
 pub mod Samples
 mod SizeFour
 pub mod SizeLaws
