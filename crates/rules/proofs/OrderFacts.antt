@@ -17,45 +17,48 @@ other = 255 ∷ 255 ∷ 1 ∷ 255 ∷ 1 ∷ 255 ∷ 1 ∷ 255 ∷ 255 ∷ []
 abbrev from : List ℕ → List ℕ → List ℕ
 from a d = a ++ (1 ∷ 2 ∷ 255 ∷ 255 ∷ 1 ∷ 2 ∷ 255 ∷ 255 ∷ []) ++ d
 
--- The rows 12##, 21##, ##12, #12#, #1#2 and 1##2.
-abbrev blacks_last : List ℕ
-blacks_last = 1 ∷ 2 ∷ 255 ∷ 255 ∷ []
+-- Rows: b is a black.
+abbrev row_12bb : List ℕ
+row_12bb = 1 ∷ 2 ∷ 255 ∷ 255 ∷ []
 
-abbrev turned : List ℕ
-turned = 2 ∷ 1 ∷ 255 ∷ 255 ∷ []
+abbrev row_21bb : List ℕ
+row_21bb = 2 ∷ 1 ∷ 255 ∷ 255 ∷ []
 
-abbrev blacks_first : List ℕ
-blacks_first = 255 ∷ 255 ∷ 1 ∷ 2 ∷ []
+abbrev row_bb12 : List ℕ
+row_bb12 = 255 ∷ 255 ∷ 1 ∷ 2 ∷ []
 
-abbrev blacks_out : List ℕ
-blacks_out = 255 ∷ 1 ∷ 2 ∷ 255 ∷ []
+abbrev row_bb21 : List ℕ
+row_bb21 = 255 ∷ 255 ∷ 2 ∷ 1 ∷ []
 
-abbrev one_between : List ℕ
-one_between = 255 ∷ 1 ∷ 255 ∷ 2 ∷ []
+abbrev row_b21b : List ℕ
+row_b21b = 255 ∷ 2 ∷ 1 ∷ 255 ∷ []
 
-abbrev blacks_in : List ℕ
-blacks_in = 1 ∷ 255 ∷ 255 ∷ 2 ∷ []
+abbrev row_b1b2 : List ℕ
+row_b1b2 = 255 ∷ 1 ∷ 255 ∷ 2 ∷ []
+
+abbrev row_2bb1 : List ℕ
+row_2bb1 = 2 ∷ 255 ∷ 255 ∷ 1 ∷ []
 
 -- A grid of size 5 with rows ##123 behind the first two.
 abbrev from_5 : List ℕ → List ℕ → List ℕ
 from_5 a b = (255 ∷ 255 ∷ a) ++ (255 ∷ 255 ∷ b) ++ (255 ∷ 255 ∷ 1 ∷ 2 ∷ 3 ∷ 255 ∷ 255 ∷ 1 ∷ 2 ∷ 3 ∷ 255 ∷ 255 ∷ 1 ∷ 2 ∷ 3 ∷ [])
 
 record OrderFacts : Type 0 where
-  -- Two grids, given in the wrong order: that with its right black further right comes first.
-  further_right : in_order 4 (from one_between turned ∷ from blacks_out turned ∷ []) ≡ from blacks_out turned ∷ from one_between turned ∷ []
+  -- Two grids, given in the wrong order: that with its values further right comes first.
+  further_right : in_order 4 (from row_bb21 row_21bb ∷ from row_b1b2 row_21bb ∷ []) ≡ from row_b1b2 row_21bb ∷ from row_bb21 row_21bb ∷ []
   -- The right black of a row decides before its left one.
-  right_first : in_order 4 (from blacks_in turned ∷ from blacks_out turned ∷ []) ≡ from blacks_out turned ∷ from blacks_in turned ∷ []
+  right_first : in_order 4 (from row_2bb1 row_21bb ∷ from row_b21b row_21bb ∷ []) ≡ from row_b21b row_21bb ∷ from row_2bb1 row_21bb ∷ []
   -- The left black of the first row decides before the right one of the last.
   blacks_by_rows :
-      in_order 4 (from blacks_out blacks_last ∷ from blacks_last blacks_first ∷ []) ≡ from blacks_last blacks_first ∷ from blacks_out blacks_last ∷ []
+      in_order 4 (from row_b21b row_12bb ∷ from row_12bb row_bb12 ∷ []) ≡ from row_12bb row_bb12 ∷ from row_b21b row_12bb ∷ []
   -- The left black of the last row decides before the digits of the first.
-  blacks_first_of_all : in_order 4 (from blacks_last one_between ∷ from turned blacks_in ∷ []) ≡ from turned blacks_in ∷ from blacks_last one_between ∷ []
+  blacks_first_of_all : in_order 4 (from row_12bb row_b1b2 ∷ from row_21bb row_2bb1 ∷ []) ≡ from row_21bb row_2bb1 ∷ from row_12bb row_b1b2 ∷ []
   -- Of a row's digits the greater decides.
-  greater_first : in_order 4 (from turned blacks_last ∷ from blacks_last blacks_last ∷ []) ≡ from blacks_last blacks_last ∷ from turned blacks_last ∷ []
+  greater_first : in_order 4 (from row_21bb row_12bb ∷ from row_12bb row_12bb ∷ []) ≡ from row_12bb row_12bb ∷ from row_21bb row_12bb ∷ []
   -- The digit of the first row decides before that of the last.
-  digit_by_rows : in_order 4 (from turned blacks_last ∷ from blacks_last turned ∷ []) ≡ from blacks_last turned ∷ from turned blacks_last ∷ []
+  digit_by_rows : in_order 4 (from row_21bb row_12bb ∷ from row_12bb row_21bb ∷ []) ≡ from row_12bb row_21bb ∷ from row_21bb row_12bb ∷ []
   -- The last value at which lawful rows can first differ: the digit 2 of the last row.
-  last_row : in_order 4 (from turned turned ∷ from turned blacks_last ∷ []) ≡ from turned blacks_last ∷ from turned turned ∷ []
+  last_row : in_order 4 (from row_21bb row_21bb ∷ from row_21bb row_12bb ∷ []) ≡ from row_21bb row_12bb ∷ from row_21bb row_21bb ∷ []
   -- The digit 3 of the second row decides before the digit 2 of the first.
   digit_of_all_rows :
       in_order 5 (from_5 (3 ∷ 1 ∷ 2 ∷ []) (1 ∷ 3 ∷ 2 ∷ []) ∷ from_5 (3 ∷ 2 ∷ 1 ∷ []) (1 ∷ 2 ∷ 3 ∷ []) ∷ [])
