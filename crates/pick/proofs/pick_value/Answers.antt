@@ -9,7 +9,7 @@ use Rattle.pick.proofs.pick_value.Goals.{then-values-ne0+else-value-ge-BLACK1_RO
 pub returns-then-value-ge-BLACK1_ROW : goal.returns-then-value-ge-BLACK1_ROW
 returns-then-value-ge-BLACK1_ROW c =
     let i = c.ilog2-value.ensures in
-    lead_black c.open_values-values.ensures i.power_le i.next_power_gt i.bound c.loop-row-test.true c.if-value-ge-BLACK1_ROW.true _ c.loop-row.invariant
+    lead_black c.open_values-values.ensures i.power_le i.next_power_gt i.bound c.loop-row-test.true (omega (arith, c.if-value-ge-BLACK1_ROW.true)) _ c.loop-row.invariant
 
 pub loop-row-preserved : goal.loop-row-preserved
 loop-row-preserved c =
@@ -17,7 +17,7 @@ loop-row-preserved c =
       | then-values-ne0+else-value-ge-BLACK1_ROW w ↦
           let i = w.ilog2-value.ensures in
           rw (w.best-is, w.greater-best.ensures)
-          (lead_digit c.open_values-values.ensures i.power_le i.next_power_gt i.bound c.loop-row-test.true w.if-value-ge-BLACK1_ROW.false _ c.loop-row.invariant)
+          (lead_digit c.open_values-values.ensures i.power_le i.next_power_gt i.bound c.loop-row-test.true (omega (arith, w.if-value-ge-BLACK1_ROW.false)) _ c.loop-row.invariant)
       | else-values-ne0 w ↦ rw w.best-is (led_same c.open_values-values.ensures w.if-values-ne0.false _ c.loop-row.invariant)
     ]
 
