@@ -26,7 +26,7 @@ returns-in-Settled t c = turn_one c.loop-found.invariant c.loop-found-test.true 
 
 pub set_cell-requires : goal.set_cell-requires
 set_cell-requires t c =
-    turn_ask c.loop-found.invariant c.requires.fits c.loop-found-test.true c.in-Branch.ensures c.copy.ensures
+    turn_ask c.loop-found.invariant c.requires.fits c.loop-found-test.true c.in-Branch.ensures (search c.copy.ensures)
 
 pub search-found-requires : goal.search-found-requires
 search-found-requires t c =
@@ -35,8 +35,7 @@ search-found-requires t c =
     let h = c.loop-found-test.true in
     let a = c.in-Branch.ensures in
     let e = c.copy.ensures in
-    let d = c.set_cell.ensures in
-    (rw (← c.decreases) (turn_fewer u f h a e d), turn_searchable u f h a e d c.is_first-first.ensures)
+    (rw (← c.decreases) (search (turn_fewer, u, f, h, a, e)), search (turn_searchable, u, f, h, a, e))
 
 pub loop-found-smaller : goal.loop-found-smaller
 loop-found-smaller t c =
