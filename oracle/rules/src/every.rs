@@ -1,8 +1,10 @@
-//! Every grid of a small size, so that counts can be had from the rules alone.
+//! Every grid of a small size, so that counts and the first grid can be had from the rules
+//! alone.
 
 use std::collections::HashMap;
 use std::sync::OnceLock;
 
+use crate::order::put_in_order;
 use crate::sums::sums;
 use crate::{BLACK, Sums, satisfies};
 
@@ -11,8 +13,8 @@ pub const LISTED: std::ops::RangeInclusive<usize> = 2..=5;
 
 type ByTargets = HashMap<Sums, Vec<Vec<u8>>>;
 
-/// Every grid that satisfies puzzle and marks, or `None` for a size that is not
-/// listed.
+/// Every grid that satisfies puzzle and marks, in their order, or `None` for a size that
+/// is not listed.
 pub fn every_grid(
     size: usize,
     rows: &[u8],
@@ -28,7 +30,7 @@ pub fn every_grid(
     Some(cells.filter(kept).collect())
 }
 
-/// All grids of this size, by their targets.
+/// All grids of this size, by their targets, those of a puzzle in their order.
 fn by_targets(size: usize) -> ByTargets {
     let mut list = ByTargets::new();
     for cells in lay_rows(size) {
@@ -36,6 +38,8 @@ fn by_targets(size: usize) -> ByTargets {
             list.entry((rows, columns)).or_default().push(cells);
         }
     }
+    list.values_mut()
+        .for_each(|grids| put_in_order(size, grids));
     list
 }
 

@@ -21,6 +21,18 @@ impl Mark {
         }
     }
 
+    /// The 16 bits of a mark that takes.
+    pub fn taking(row: usize, column: usize, value: u8) -> u16 {
+        let mark = Self {
+            rejected: false,
+            row,
+            column,
+            value,
+            spare: 0,
+        };
+        mark.pack()
+    }
+
     /// The 16 bits of a mark that rejects.
     pub fn rejecting(row: usize, column: usize, value: u8, spare: u8) -> u16 {
         let rejected = true;

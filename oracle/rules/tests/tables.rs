@@ -1,10 +1,10 @@
-//! Arrangements, closed tables, the candidates that remain and the first grid, on
-//! inputs that can be followed by hand and against every grid of the small sizes.
+//! Arrangements, closed tables and the candidates that remain, on inputs that can be
+//! followed by hand and against every grid of the small sizes.
 
 use inputs::{Rng, SeededRng};
 use rules::{
-    Arrangement, BLACK as B, arrangements, column_blacks, every_grid, first_grid, has_grid,
-    is_closed, is_filled, marks_of, marks_refusal, remaining, row_blacks, satisfies, shows_mark,
+    Arrangement, arrangements, column_blacks, every_grid, first_grid, has_grid, is_closed,
+    is_filled, marks_of, marks_refusal, remaining, row_blacks, satisfies, shows_mark,
 };
 
 fn of_row(size: usize, target: u8) -> Vec<Arrangement> {
@@ -171,13 +171,8 @@ fn holds(size: usize, rows: &[u8], columns: &[u8], marks: &[u16]) -> bool {
             && marks.iter().all(|&mark| shows_mark(size, table, mark))
             && grids.iter().all(|grid| has_grid(size, table, grid))
     };
-    let first = first_grid(size, rows, columns, marks);
-    let is_first_right = match &first {
-        Some(first) => grids.contains(&first.as_slice()),
-        None => grids.is_empty(),
-    };
     let table = remaining(size, rows, columns, marks);
-    is_first_right && table.map_or(grids.is_empty(), |table| is_kept(&table))
+    table.map_or(grids.is_empty(), |table| is_kept(&table))
 }
 
 fn marks_of_size(size: usize) -> Vec<u16> {
@@ -239,14 +234,4 @@ fn the_examples_of_the_request() {
     let marked = remaining(4, &[1, 2, 0, 0], &[1, 0, 0, 0], &[0x9090]).expect("a table");
     assert!(holds(4, &[1, 2, 0, 0], &[1, 0, 0, 0], &[0x9090]));
     assert_eq!(marked[2 * 4 + 1] & 2, 0);
-}
-
-/// Two grids differ in four cells; the search begins at the first of them, with the
-/// value of the highest bit.
-#[test]
-fn the_search_takes_the_highest_bit_among_equals() {
-    let first = first_grid(3, &[0, 1, 0], &[0, 1, 0], &[]);
-    assert_eq!(first, Some(vec![1, B, B, B, 1, B, B, B, 1]));
-    let other = first_grid(3, &[0, 1, 0], &[0, 1, 0], &[0x8008]);
-    assert_eq!(other, Some(vec![B, B, 1, B, 1, B, 1, B, B]));
 }
