@@ -1,4 +1,4 @@
-//! The first grid by a plain search, for sizes that have too many grids to list.
+//! The first grids by a plain search, for sizes that have too many grids to list.
 
 use crate::lines::{Line, lines};
 use crate::order::{RowValue, sequence};
@@ -7,28 +7,41 @@ use crate::values::{bit, digits, row_half};
 use crate::{BLACK, is_filled, remaining};
 
 /// The first grid of a puzzle and marks in the order of grids, or `None` if there is none.
-/// Small and slow.
 pub fn first_grid(size: usize, rows: &[u8], columns: &[u8], marks: &[u16]) -> Option<Vec<u8>> {
+    first_grids(size, rows, columns, marks, 1).pop()
+}
+
+/// The first grids of a puzzle and marks in the order of grids, all or so many. Small and
+/// slow.
+pub fn first_grids(
+    size: usize,
+    rows: &[u8],
+    columns: &[u8],
+    marks: &[u16],
+    cap: usize,
+) -> Vec<Vec<u8>> {
     let lines = lines(size, rows, columns);
-    searched(size, &lines, remaining(size, rows, columns, marks)?)
+    let mut found = Vec::new();
+    if let Some(table) = remaining(size, rows, columns, marks) {
+        search(size, &lines, table, cap, &mut found);
+    }
+    found
 }
 
 /// Takes a value of a cell first and rejects it then, until a table is settled.
-fn searched(size: usize, lines: &[Line], mut table: Vec<u16>) -> Option<Vec<u8>> {
-    while is_filled(&table) {
+fn search(size: usize, lines: &[Line], mut table: Vec<u16>, cap: usize, found: &mut Vec<Vec<u8>>) {
+    while is_filled(&table) && found.len() < cap {
         let Some((place, value)) = branch(size, &table) else {
-            return Some(table.iter().map(|&entry| cell(size, entry)).collect());
+            found.push(table.iter().map(|&entry| cell(size, entry)).collect());
+            return;
         };
         let mut taken = table.clone();
         set(size, &mut taken, place, value);
         strike_all(size, lines, &mut taken);
-        if let Some(cells) = searched(size, lines, taken) {
-            return Some(cells);
-        }
+        search(size, lines, taken, cap, found);
         table[place] &= !value;
         strike_all(size, lines, &mut table);
     }
-    None
 }
 
 /// The first value in the sequence of rows' values that an open cell of its row has, in

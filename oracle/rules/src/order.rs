@@ -2,7 +2,7 @@
 
 use std::cmp::Reverse;
 
-use crate::{Mark, keeps_mark};
+use crate::{BLACK, Mark, keeps_mark};
 
 /// A value of a row, with its number in marks: 8 the left black, 9 the right one, or a
 /// digit.
@@ -13,15 +13,34 @@ pub struct RowValue {
 }
 
 impl RowValue {
-    /// The mark that takes it in this column.
-    pub fn taken(self, column: usize) -> u16 {
-        Mark::taking(self.row, column, self.value)
-    }
-
     /// The column in which a grid has it.
     pub fn column(self, size: usize, cells: &[u8]) -> usize {
         let has = |&column: &usize| keeps_mark(size, cells, self.taken(column));
         (0..size).find(has).expect("a grid has it")
+    }
+
+    /// The mark that takes it in a column.
+    fn taken(self, column: usize) -> u16 {
+        Mark::taking(self.row, column, self.value)
+    }
+
+    /// The columns further right that the rules leave it, if all earlier values stand where
+    /// this grid has them.
+    fn free_columns(self, size: usize, cells: &[u8]) -> impl Iterator<Item = usize> {
+        let Self { row, value } = self;
+        let above = move |column: usize, cell: u8| {
+            let has = |&row: &usize| cells[row * size + column] == cell;
+            (0..row).filter(has).count()
+        };
+        let is_free = move |&column: &usize| match value {
+            8 | 9 => above(column, BLACK) < 2,
+            digit => cells[row * size + column] < digit && above(column, digit) == 0,
+        };
+        let end = match value {
+            8 => Self { row, value: 9 }.column(size, cells),
+            _ => size,
+        };
+        (self.column(size, cells) + 1..end).filter(is_free)
     }
 }
 
@@ -45,4 +64,19 @@ pub fn columns_of(size: usize, cells: &[u8]) -> Vec<usize> {
 /// that has it further right comes first.
 pub fn put_in_order(size: usize, grids: &mut [Vec<u8>]) {
     grids.sort_by_cached_key(|cells| Reverse(columns_of(size, cells)));
+}
+
+/// Lists of marks: each grid that comes before this one keeps just one of them, and no
+/// other grid keeps any. A list takes the first values of the sequence where this grid has
+/// them, and the next one further right.
+pub fn marks_before(size: usize, cells: &[u8]) -> Vec<Vec<u16>> {
+    let mut lists = Vec::new();
+    let mut taken = Vec::new();
+    for value in sequence(size) {
+        let columns = value.free_columns(size, cells);
+        let further_right = columns.map(|column| value.taken(column));
+        lists.extend(further_right.map(|mark| [&taken[..], &[mark]].concat()));
+        taken.push(value.taken(value.column(size, cells)));
+    }
+    lists
 }

@@ -2,7 +2,8 @@
 
 use inputs::{Asked, SeededRng};
 use rules::{
-    BLACK, columns_of, every_grid, first_grid, marks_of, marks_refusal, put_in_order, sequence,
+    BLACK, columns_of, every_grid, first_grid, first_grids, keeps_mark, marks_before, marks_of,
+    marks_refusal, put_in_order, sequence,
 };
 
 /// The cells of a grid as it is printed.
@@ -119,42 +120,66 @@ fn the_right_black_comes_before_the_left_one() {
     );
 }
 
-/// The search comes to the first grid of the list.
-fn agree(rows: &[u8], columns: &[u8], marks: &[u16]) {
+/// The search finds the grids of the list, in its order. Gives them.
+fn agree(rows: &[u8], columns: &[u8], marks: &[u16]) -> Vec<&'static [u8]> {
     let size = rows.len();
     let grids = every_grid(size, rows, columns, marks).expect("a listed size");
-    let first = first_grid(size, rows, columns, marks);
-    assert_eq!(
-        first.as_deref(),
-        grids.first().copied(),
-        "{rows:?} {columns:?} {marks:x?}"
-    );
+    for cap in [1, 2, usize::MAX] {
+        let front = &grids[..grids.len().min(cap)];
+        let found = first_grids(size, rows, columns, marks, cap);
+        assert_eq!(found, front, "{rows:?} {columns:?} {marks:x?}");
+    }
+    grids
 }
 
 #[test]
-fn the_search_comes_to_the_first_grid_of_every_puzzle_up_to_size_4() {
+fn the_search_finds_the_grids_of_every_puzzle_up_to_size_4_in_their_order() {
     for (size, alphabet) in [(2, &[0][..]), (3, &[0, 1]), (4, &[0, 1, 2, 3])] {
         for targets in inputs::all_lists(2 * size, alphabet) {
             let (rows, columns) = targets.split_at(size);
             agree(rows, columns, &[]);
             // With each mark where that is soon done.
             let marks = (0..=u16::MAX).filter(|_| size < 4);
-            marks
-                .filter(|&mark| marks_refusal(size, &[mark]).is_none())
-                .for_each(|mark| agree(rows, columns, &[mark]));
+            for mark in marks.filter(|&mark| marks_refusal(size, &[mark]).is_none()) {
+                agree(rows, columns, &[mark]);
+            }
+        }
+    }
+}
+
+/// Each of these grids in their order keeps one of the lists of each later grid, and none of
+/// the others.
+fn come_in_order(size: usize, grids: &[&[u8]]) {
+    for (place, cells) in grids.iter().enumerate() {
+        let lists = marks_before(size, cells);
+        for (other, cells) in grids.iter().enumerate() {
+            let keeps = |&mark: &u16| keeps_mark(size, cells, mark);
+            let kept = lists.iter().filter(|marks| marks.iter().all(keeps));
+            assert_eq!(kept.count(), usize::from(other < place), "{cells:x?}");
         }
     }
 }
 
 #[test]
-fn the_search_comes_to_the_first_grid_under_marks() {
+fn the_search_finds_the_grids_under_marks_in_their_order() {
     let mut rng = SeededRng::new(10);
-    for _ in 0..4000 {
+    for _ in 0..2000 {
         for size in 3..=5 {
-            let asked: Asked = inputs::of_a_grid(&mut rng, size);
-            agree(&asked.rows, &asked.columns, &marks_of(&asked.marks));
-            let asked: Asked = inputs::of_random_targets(&mut rng, size);
-            agree(&asked.rows, &asked.columns, &marks_of(&asked.marks));
+            for draw in [inputs::of_a_grid, inputs::of_random_targets] {
+                let asked: Asked = draw(&mut rng, size);
+                let grids = agree(&asked.rows, &asked.columns, &marks_of(&asked.marks));
+                come_in_order(size, &grids);
+            }
         }
     }
+}
+
+/// The puzzle in which the right black comes before the left one.
+#[test]
+fn a_grid_before_another_is_seen_at_size_8() {
+    let (rows, columns) = ([6, 13, 1, 21, 10, 17, 5, 10], [6, 10, 3, 11, 6, 4, 0, 2]);
+    let grids = first_grids(8, &rows, &columns, &[], usize::MAX);
+    let grids: Vec<&[u8]> = grids.iter().map(Vec::as_slice).collect();
+    assert_eq!(grids.len(), 3);
+    come_in_order(8, &grids);
 }
