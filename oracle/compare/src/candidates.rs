@@ -37,7 +37,7 @@ impl Searching for Candidates {
     ) -> Result<Option<Expected<'a, u8>>, String> {
         let known = Known::of(accepted);
         known.agree()?;
-        Ok(Some(Expected::Allowed(Box::new(move |left| {
+        Ok(Some(Expected::Judged(Box::new(move |_, left| {
             known.judged(left)
         }))))
     }

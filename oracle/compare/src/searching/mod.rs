@@ -65,13 +65,14 @@ impl<S: Searching> Call for S {
         let refused = S::refusal(Unit::CLASSROOM, &input.asked, input.rest);
         if let Some(number) = refused {
             let left = left_by::<S>(engine, Unit::CLASSROOM, input)?;
-            in_unit(Unit::CLASSROOM, Expected::refused(number).judged(&left))?;
+            let right = Expected::refused(number).judged(engine, &left);
+            in_unit(Unit::CLASSROOM, right)?;
         }
         let Some(hall) = hall else {
             return Ok(Answer::of(SKIPPED, refused));
         };
         let left = left_by::<S>(engine, Unit::HALL, input)?;
-        let right = in_unit(Unit::HALL, hall.judged(&left))?;
+        let right = in_unit(Unit::HALL, hall.judged(engine, &left))?;
         if refused.is_none() {
             the_same(&left, &left_by::<S>(engine, Unit::CLASSROOM, input)?)?;
         }
@@ -137,8 +138,8 @@ impl<'a> Accepted<'a> {
 /// An input on which the Rust passes its limit: nobody knows its answer.
 const SKIPPED: Label = "skipped";
 
-/// Says how an answer is counted, or what is wrong with it.
-type Judge<'a, T> = dyn Fn(&Left<T>) -> Result<Right, String> + 'a;
+/// Says how an answer is counted, or what is wrong with it. It may ask the engine more.
+type Judge<'a, T> = dyn Fn(&dyn Engine, &Left<T>) -> Result<Right, String> + 'a;
 
 /// What has to come back.
 pub enum Expected<'a, T> {
@@ -148,8 +149,8 @@ pub enum Expected<'a, T> {
         written: Option<Vec<T>>,
         label: Label,
     },
-    /// The rules allow several answers.
-    Allowed(Box<Judge<'a, T>>),
+    /// The rules allow several answers, or the right one is not known beforehand.
+    Judged(Box<Judge<'a, T>>),
 }
 
 /// What a call left: its number, and its buffer with guards that are whole.
@@ -176,14 +177,14 @@ impl<T: Entry + Debug> Expected<'_, T> {
         }
     }
 
-    fn judged(&self, left: &Left<T>) -> Result<Right, String> {
+    fn judged(&self, engine: &dyn Engine, left: &Left<T>) -> Result<Right, String> {
         let (number, written, label) = match self {
             Self::Exactly {
                 number,
                 written,
                 label,
             } => (*number, written, label),
-            Self::Allowed(judge) => return judge(left),
+            Self::Judged(judge) => return judge(engine, left),
         };
         let is_right = match written {
             Some(entries) => left.entries == *entries,
