@@ -139,8 +139,8 @@ fn rust_call(puzzle: &Puzzle) {
 }
 
 /// Runs all sides in each round, one after the other, each round beginning with
-/// the next one. Says how far the output of both programs is the same; where it is
-/// not, `sheet` has to show another grid of a puzzle that has several.
+/// the next one. Says how far the output of both programs is the same: of a puzzle that
+/// has several grids, `sheet` has to show the first, and `driver` shows the Rust's.
 fn time(sides: &mut [Side], lines: &[u8], rounds: usize) -> Result<String, String> {
     let mut agreement = String::new();
     for round in 0..rounds {
@@ -238,21 +238,22 @@ mod tests {
         assert!(output_of(Path::new("no-such-program"), b"").is_err());
     }
 
-    /// A puzzle that has two grids, and both of them.
-    const LINE: &[u8] = b"3 0 1 0 0 1 0\n";
-    const ONE: &[u8] = b"multiple 1##/#1#/##1\n";
-    const OTHER: &[u8] = b"multiple ##1/#1#/1##\n";
+    /// A puzzle that has two grids: the first, and the one that the Rust shows.
+    const LINE: &[u8] = b"4 3 0 0 0 3 0 0 0\n";
+    const FIRST: &[u8] = b"multiple #12#/12##/2##1/##12\n";
+    const OTHER: &[u8] = b"multiple #21#/21##/1##2/##21\n";
 
     #[test]
     fn programs_have_to_agree() {
         let gives = |output: &'static [u8]| Side::new("", move || Ok(output.to_vec()));
-        let mut same = [gives(ONE), gives(ONE), gives(b"")];
+        let mut same = [gives(FIRST), gives(FIRST), gives(b"")];
         assert!(time(&mut same, LINE, 4).is_ok_and(|said| said.contains("but for 0 ")));
         assert!(same.iter().all(|side| side.times.len() == 4));
-        let mut other = [gives(OTHER), gives(ONE)];
+        let mut other = [gives(FIRST), gives(OTHER)];
         assert!(time(&mut other, LINE, 1).is_ok_and(|said| said.contains("but for 1 ")));
-        assert!(time(&mut [gives(b"unsolvable\n"), gives(ONE)], LINE, 1).is_err());
-        assert!(time(&mut [gives(b""), gives(ONE)], LINE, 1).is_err());
+        assert!(time(&mut [gives(OTHER), gives(OTHER)], LINE, 1).is_err());
+        assert!(time(&mut [gives(b"unsolvable\n"), gives(FIRST)], LINE, 1).is_err());
+        assert!(time(&mut [gives(b""), gives(FIRST)], LINE, 1).is_err());
     }
 
     #[test]

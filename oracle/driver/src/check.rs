@@ -1,8 +1,9 @@
-//! Judges answers: they are the Rust's, but for the grid of a puzzle that has several.
+//! Judges answers: they are the Rust's, but for the grid of a puzzle that has several,
+//! which is the first by the rules.
 
 use std::fmt;
 
-use rules::{BLACK, LinePuzzle, line_puzzle, satisfies};
+use rules::{LinePuzzle, first_grid, line_puzzle};
 
 use crate::answer::{MULTIPLE, shown};
 
@@ -55,36 +56,23 @@ fn with_ends(text: &[u8]) -> impl Iterator<Item = &[u8]> {
     text.split_inclusive(|&byte| byte == b'\n')
 }
 
-/// The Rust's answer, or another grid of the same puzzle in its place.
+/// The Rust's answer, or if there are several grids the first.
 fn is_right(line: &[u8], by_rust: &[u8], answer: &[u8]) -> bool {
-    by_rust == answer || by_rust.starts_with(MULTIPLE.as_bytes()) && shows_a_grid(line, answer)
+    if by_rust.starts_with(MULTIPLE.as_bytes()) {
+        with_first(line).as_deref() == Some(answer)
+    } else {
+        by_rust == answer
+    }
 }
 
-/// Whether the answer is `multiple`, a grid of the line's puzzle and a line end.
-fn shows_a_grid(line: &[u8], answer: &[u8]) -> bool {
-    let Ok(puzzle) = line_puzzle(line.strip_suffix(b"\n").unwrap_or(line)) else {
-        return false;
-    };
+/// The answer to a puzzle's line that shows its first grid, with its line end.
+fn with_first(line: &[u8]) -> Option<Vec<u8>> {
+    let puzzle = line_puzzle(line.strip_suffix(b"\n").unwrap_or(line)).ok()?;
     let LinePuzzle {
         size,
         rows,
         columns,
     } = puzzle;
-    let grid = answer.strip_prefix(MULTIPLE.as_bytes());
-    let Some(grid) = grid.and_then(|rest| rest.strip_suffix(b"\n")) else {
-        return false;
-    };
-    let cells: Vec<u8> = grid.iter().filter_map(|&sign| cell(sign)).collect();
-    // What was skipped or stands elsewhere is seen when the cells are shown again.
-    cells.len() == size * size
-        && shown(size, &cells).as_bytes() == grid
-        && satisfies(size, &rows, &columns, &[], &cells)
-}
-
-fn cell(sign: u8) -> Option<u8> {
-    match sign {
-        b'#' => Some(BLACK),
-        b'0'..=b'9' => Some(sign - b'0'),
-        _ => None,
-    }
+    let first = first_grid(size, &rows, &columns, &[])?;
+    Some(format!("{MULTIPLE}{}\n", shown(size, &first)).into_bytes())
 }

@@ -32,8 +32,12 @@ fn the_rust_s_answers_are_right() {
 }
 
 #[test]
-fn any_grid_of_several_is_right() {
-    assert_eq!(with(2, "multiple ##1/#1#/1##\n"), Ok(4));
+fn the_first_grid_of_several_is_right_and_no_other() {
+    assert_eq!(with(2, "multiple ##1/#1#/1##\n"), Err(2));
+    // Here it is the other one that the Rust shows.
+    let line = "4 3 0 0 0 3 0 0 0\n";
+    assert_eq!(checked(line, "multiple #12#/12##/2##1/##12\n"), Ok(1));
+    assert_eq!(checked(line, "multiple #21#/21##/1##2/##21\n"), Err(1));
 }
 
 #[test]
@@ -50,15 +54,15 @@ fn a_wrong_grid_is_refused() {
 #[test]
 fn a_right_grid_in_another_form_is_refused() {
     let forms = [
-        "multiple ##1/#1#/1##/\n",
-        "multiple ##1#1#1##\n",
-        "multiple ##1/#1#/1## \n",
-        "multiple  ##1/#1#/1##\n",
-        "multiple ##1 #1# 1##\n",
-        "multiple ##1/#1#/1##\r\n",
-        "multiple ##/1#1#/1##\n",
-        "Multiple ##1/#1#/1##\n",
-        "##1/#1#/1##\n",
+        "multiple 1##/#1#/##1/\n",
+        "multiple 1###1###1\n",
+        "multiple 1##/#1#/##1 \n",
+        "multiple  1##/#1#/##1\n",
+        "multiple 1## #1# ##1\n",
+        "multiple 1##/#1#/##1\r\n",
+        "multiple 1#/##1#/##1\n",
+        "Multiple 1##/#1#/##1\n",
+        "1##/#1#/##1\n",
     ];
     for form in forms {
         assert_eq!(with(2, form), Err(2), "{form}");
@@ -93,8 +97,7 @@ fn a_missing_line_end_is_refused() {
     assert_eq!(with(4, "refused 3"), Err(4));
     assert_eq!(with(3, "unsolvable"), Err(3));
     assert_eq!(checked("3 0 1 0 0 1 0", "multiple 1##/#1#/##1"), Err(1));
-    assert_eq!(checked("3 0 1 0 0 1 0", "multiple ##1/#1#/1##"), Err(1));
-    assert_eq!(checked("3 0 1 0 0 1 0", "multiple ##1/#1#/1##\n"), Ok(1));
+    assert_eq!(checked("3 0 1 0 0 1 0", "multiple 1##/#1#/##1\n"), Ok(1));
 }
 
 #[test]
