@@ -27,7 +27,7 @@ fn solved(asked: &Asked) -> Option<(u8, Record)> {
     let (number, cells) = match reference::solve_within(LIMIT, *size, rows, columns, &marks)? {
         Solved::Unsolvable => (100, None),
         Solved::Unique(cells) => (101, Some(cells)),
-        // The rules leave open which grid is shown: the first of a plain search.
+        // The first by the rules, which the Rust need not find first.
         Solved::Multiple(_) => (102, rules::first_grid(*size, rows, columns, &marks)),
     };
     assert_eq!(cells.is_some(), number > 100, "run compare");

@@ -199,6 +199,25 @@ fn grids_keep_puzzle_and_marks() {
     }
 }
 
+/// By the list of grids; where there is none, the Rust counts no grid before it.
+#[test]
+fn the_first_grid_of_several_is_shown() {
+    let list = list(Call::Solve);
+    for fields in fields(Call::Solve, &list) {
+        if fields[5] == [102] {
+            let (size, rows, columns) = (fields[0][0].into(), fields[1], fields[2]);
+            let (marks, after) = (rules::marks_of(fields[3]), fields[6]);
+            match rules::every_grid(size, rows, columns, &marks) {
+                Some(grids) => assert_eq!(grids[0], after),
+                None => rules::marks_before(size, after).iter().for_each(|more| {
+                    let marks = [&marks[..], more].concat();
+                    assert_eq!(reference::count(size, rows, columns, &marks, 1), 0);
+                }),
+            }
+        }
+    }
+}
+
 #[test]
 fn counts_reach_their_cap_and_stay_below_it() {
     let list = list(Call::Count);
