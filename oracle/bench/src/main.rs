@@ -1,10 +1,11 @@
-//! `bench [ROUNDS]` times all calls; `bench choose` prints the size 9 list;
-//! `bench stack` measures the stack of the calls that search; `bench sheet` times
-//! whole programs.
+//! `bench [ROUNDS]` times all calls; `bench searches` times long counts; `bench choose`
+//! prints the size 9 list; `bench stack` measures the stack of the calls that search;
+//! `bench sheet` times whole programs.
 
 mod marking;
 mod measure;
 mod puzzles;
+mod searches;
 mod searching;
 mod sheet;
 mod stack;
@@ -13,7 +14,8 @@ mod sums;
 use std::env;
 use std::process::ExitCode;
 
-const USAGE: &str = "usage: bench [ROUNDS] | bench choose | bench stack | bench sheet [6 | 8]";
+const USAGE: &str =
+    "usage: bench [ROUNDS] | bench searches | bench choose | bench stack | bench sheet [6 | 8]";
 
 const ROUNDS: usize = 9;
 
@@ -22,6 +24,7 @@ fn main() -> ExitCode {
     let words: Vec<&str> = words.iter().map(String::as_str).collect();
     match words[..] {
         [] => time_all(ROUNDS),
+        ["searches"] => time_searches(),
         ["choose"] => puzzles::choose(),
         ["stack"] => stack::run(&puzzles::deep()),
         ["sheet"] => return time_programs(&[6, 8]),
@@ -46,6 +49,11 @@ fn time_all(rounds: usize) {
     sums::run(rounds);
     marking::run(rounds);
     searching::run(rounds);
+}
+
+fn time_searches() {
+    say_how_built();
+    searches::run();
 }
 
 fn time_programs(sizes: &[usize]) -> ExitCode {

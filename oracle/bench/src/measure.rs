@@ -2,11 +2,14 @@
 
 use std::time::Instant;
 
+/// A call on one input, which gives a number.
+pub type Call<'a> = Box<dyn FnMut() -> u64 + 'a>;
+
 /// One input on both sides. Each side runs the call once and gives a number that
 /// has to be the same on both.
 pub struct Pair<'a> {
-    pub engine: Box<dyn FnMut() -> u64 + 'a>,
-    pub rust: Box<dyn FnMut() -> u64 + 'a>,
+    pub engine: Call<'a>,
+    pub rust: Call<'a>,
 }
 
 /// Nanoseconds for one call on one input.
@@ -36,13 +39,23 @@ pub fn measure(title: &str, pairs: &mut [Pair], effort: Effort) {
                 .collect(),
         );
     }
-    let title = format!(
-        "{title}: {} inputs, {} rounds, {} calls each",
-        pairs.len(),
-        effort.rounds,
-        effort.repeats
-    );
-    print(&title, &rounds);
+    print_title(title, pairs.len(), effort);
+    print(&rounds);
+}
+
+/// Times the engine without the Rust and prints its row of the table. Gives the place of
+/// the input that takes longest.
+pub fn measure_alone(title: &str, calls: &mut [Call], effort: Effort) -> usize {
+    let mut rounds: Vec<Vec<f64>> = Vec::new();
+    for _ in 0..effort.rounds {
+        let times = calls.iter_mut().map(|call| timed(call, effort.repeats).0);
+        rounds.push(times.collect());
+    }
+    let times = each_input(&rounds, |&time| time);
+    let longest = (0..times.len()).max_by(|&one, &other| times[one].total_cmp(&times[other]));
+    print_title(title, calls.len(), effort);
+    print_sides(&[("engine", &Spread::of(times))]);
+    longest.expect("an input")
 }
 
 fn paired(pair: &mut Pair, effort: Effort, engine_first: bool) -> Times {
@@ -68,37 +81,53 @@ fn timed(call: &mut dyn FnMut() -> u64, repeats: u32) -> (f64, u64) {
     (nanoseconds / f64::from(repeats), given)
 }
 
-fn print(title: &str, rounds: &[Vec<Times>]) {
+fn print_title(title: &str, inputs: usize, effort: Effort) {
+    let Effort { rounds, repeats } = effort;
+    println!("{title}: {inputs} inputs, {rounds} rounds, {repeats} calls each");
+}
+
+fn print_sides(sides: &[(&str, &Spread)]) {
+    println!("  side        median         p99     largest       total");
+    for (side, spread) in sides {
+        let [median, p99, largest, total] = spread.values().map(shown);
+        println!("  {side:6} {median:>11} {p99:>11} {largest:>11} {total:>11}");
+    }
+}
+
+fn print(rounds: &[Vec<Times>]) {
     let engine = Spread::of(each_input(rounds, |times| times.engine));
     let rust = Spread::of(each_input(rounds, |times| times.rust));
     let ratios = sorted(rounds.iter().map(|round| {
         let total = |side: fn(&Times) -> f64| round.iter().map(side).sum::<f64>();
         total(|times| times.engine) / total(|times| times.rust)
     }));
-    println!("{title}");
-    println!("  side        median         p99     largest       total");
-    for (side, spread) in [("engine", &engine), ("Rust", &rust)] {
-        let [median, p99, largest, total] = spread.values().map(shown);
-        println!("  {side:6} {median:>11} {p99:>11} {largest:>11} {total:>11}");
-    }
+    print_sides(&[("engine", &engine), ("Rust", &rust)]);
     let mut pairs = engine.values().into_iter().zip(rust.values());
     let [median, p99, largest, total] = std::array::from_fn(|_| {
-        pairs
-            .next()
-            .map_or(f64::NAN, |(engine, rust)| engine / rust)
+        let pair = pairs.next();
+        shown_ratio(pair.map_or(f64::NAN, |(engine, rust)| engine / rust))
     });
-    println!("  ratio  {median:>11.2} {p99:>11.2} {largest:>11.2} {total:>11.2}");
+    println!("  ratio  {median:>11} {p99:>11} {largest:>11} {total:>11}");
     println!(
-        "  ratio of the totals over the rounds: {:.2} to {:.2}, median {:.2}",
-        ratios[0],
-        ratios[ratios.len() - 1],
-        quantile(&ratios, 0.5)
+        "  ratio of the totals over the rounds: {} to {}, median {}",
+        shown_ratio(ratios[0]),
+        shown_ratio(ratios[ratios.len() - 1]),
+        shown_ratio(quantile(&ratios, 0.5))
     );
     println!();
 }
 
+/// Two digits behind the point, and four where these would be about nought.
+fn shown_ratio(ratio: f64) -> String {
+    if ratio < 0.1 {
+        format!("{ratio:.4}")
+    } else {
+        format!("{ratio:.2}")
+    }
+}
+
 /// The median over the rounds, for each input.
-fn each_input(rounds: &[Vec<Times>], side: fn(&Times) -> f64) -> Vec<f64> {
+fn each_input<T>(rounds: &[Vec<T>], side: fn(&T) -> f64) -> Vec<f64> {
     (0..rounds[0].len())
         .map(|input| quantile(&sorted(rounds.iter().map(|round| side(&round[input]))), 0.5))
         .collect()
@@ -149,7 +178,7 @@ pub fn shown(nanoseconds: f64) -> String {
 
 #[cfg(test)]
 mod tests {
-    use super::{quantile, shown};
+    use super::{quantile, shown, shown_ratio};
 
     #[test]
     fn quantiles_are_entries() {
@@ -157,6 +186,12 @@ mod tests {
         assert_eq!(quantile(&times, 0.5), 51.0);
         assert_eq!(quantile(&times, 0.99), 100.0);
         assert_eq!(quantile(&[3.0], 0.99), 3.0);
+    }
+
+    #[test]
+    fn a_small_ratio_is_still_seen() {
+        assert_eq!(shown_ratio(0.456), "0.46");
+        assert_eq!(shown_ratio(0.002_871), "0.0029");
     }
 
     #[test]

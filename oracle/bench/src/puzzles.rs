@@ -28,16 +28,29 @@ pub fn timed(size: usize) -> Vec<Puzzle> {
     numbers.map(|number| puzzle(size, number)).collect()
 }
 
-/// Puzzles of sizes 8 and 9 with deep searches that end soon: those of the list,
-/// and low targets, which leave many choices.
+/// The puzzles of size 9 that the list above was chosen from.
+pub fn drawn_of_size_9() -> Vec<Puzzle> {
+    (0..CHOSEN_FROM).map(|number| puzzle(9, number)).collect()
+}
+
+/// Every puzzle of size 9 with one target in all rows and one in all columns.
+pub fn even_of_size_9() -> Vec<Puzzle> {
+    let targets = 0..=rules::greatest_target(9) as u8;
+    let rows = targets.clone();
+    rows.flat_map(|rows| targets.clone().map(move |columns| even(9, rows, columns)))
+        .collect()
+}
+
+/// Puzzles of sizes 8 and 9 with deep searches: drawn ones, low targets, which leave many
+/// choices, and the same target in each line.
 pub fn deep() -> Vec<Puzzle> {
     let mut rng = SeededRng::new(9);
-    let mut puzzles = timed(9);
+    let mut puzzles = drawn_of_size_9();
     for size in [8, 9] {
         puzzles.extend((0..200).map(|_| low(&mut rng, size)));
-        puzzles.extend((0..=10).map(|target| even(size, target)));
+        let targets = 0..=rules::greatest_target(size) as u8;
+        puzzles.extend(targets.map(|target| even(size, target, target)));
     }
-    puzzles.retain(ends_soon);
     puzzles
 }
 
@@ -56,23 +69,27 @@ fn low(rng: &mut SeededRng, size: usize) -> Puzzle {
     }
 }
 
-/// The same target in each line.
-fn even(size: usize, target: u8) -> Puzzle {
+/// One target in all rows and one in all columns.
+fn even(size: usize, rows: u8, columns: u8) -> Puzzle {
     Puzzle {
         size,
-        rows: vec![target; size],
-        columns: vec![target; size],
+        rows: vec![rows; size],
+        columns: vec![columns; size],
     }
 }
 
-/// The engine takes the same branches, so that the Rust's nodes tell.
-fn ends_soon(puzzle: &Puzzle) -> bool {
-    let soon = Limit::Nodes(1000);
+/// The nodes in which the Rust ends soon.
+pub const SOON: u64 = 1000;
+
+/// Whether the Rust counts it to cap 2 in so many nodes, which are the same on every
+/// machine.
+pub fn ends_soon(puzzle: &Puzzle) -> bool {
     let Puzzle {
         size,
         rows,
         columns,
     } = puzzle;
+    let soon = Limit::Nodes(SOON);
     reference::count_within(soon, *size, rows, columns, &[], CAP).is_some()
 }
 
@@ -89,12 +106,13 @@ pub fn choose() {
 
 #[cfg(test)]
 mod tests {
-    use super::timed;
+    use super::{even_of_size_9, timed};
 
     #[test]
     fn the_lists_are_there() {
         assert_eq!(timed(6).len(), 1000);
         assert_eq!(timed(8).len(), 1000);
         assert_eq!(timed(9).len(), 156);
+        assert_eq!(even_of_size_9().len(), 841);
     }
 }

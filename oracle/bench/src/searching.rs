@@ -5,7 +5,7 @@ use std::hint::black_box;
 use doppelblock::Candidates;
 use inputs::Puzzle;
 
-use crate::measure::{Effort, Pair, measure};
+use crate::measure::{Call, Effort, Pair, measure};
 use crate::puzzles::{CAP, timed};
 
 /// Some passes over these puzzles take half a minute, so each table has its own
@@ -30,19 +30,28 @@ fn table(call: &str, size: usize, rounds: usize, repeats: u32, pair: fn(&Puzzle)
 }
 
 /// Both sides build their state from the targets first.
-fn count(puzzle: &Puzzle) -> Pair<'_> {
+pub fn count(puzzle: &Puzzle) -> Pair<'_> {
     let Puzzle {
         size,
         rows,
         columns,
     } = puzzle;
     Pair {
-        engine: Box::new(|| {
-            let counted = doppelblock::count(*size, black_box(rows), columns, &[], CAP as u64);
-            counted.expect("nothing is refused")
-        }),
+        engine: engine_count(puzzle),
         rust: Box::new(|| reference::count(*size, black_box(rows), columns, &[], CAP) as u64),
     }
+}
+
+pub fn engine_count(puzzle: &Puzzle) -> Call<'_> {
+    let Puzzle {
+        size,
+        rows,
+        columns,
+    } = puzzle;
+    Box::new(|| {
+        let counted = doppelblock::count(*size, black_box(rows), columns, &[], CAP as u64);
+        counted.expect("nothing is refused")
+    })
 }
 
 /// Opening and propagation. The Rust has then done; the engine writes its table.
