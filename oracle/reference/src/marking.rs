@@ -22,12 +22,6 @@ fn all_taken(size: usize, cells: &[u8]) -> Vec<u16> {
         BLACK => 8,
         digit => digit,
     };
-    let mark = |place: usize| Mark {
-        rejected: false,
-        row: place / size,
-        column: place % size,
-        value: value(place),
-        spare: 0,
-    };
-    (0..size * size).map(|place| mark(place).pack()).collect()
+    let mark = |place: usize| Mark::taking(place / size, place % size, value(place));
+    (0..size * size).map(mark).collect()
 }

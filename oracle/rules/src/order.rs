@@ -68,7 +68,8 @@ pub fn put_in_order(size: usize, grids: &mut [Vec<u8>]) {
 
 /// Lists of marks: each grid that comes before this one keeps just one of them, and no
 /// other grid keeps any. A list takes the first values of the sequence where this grid has
-/// them, and the next one further right.
+/// them, and the next one further right: taken there and not rejected elsewhere, since it is
+/// not seen at once that a value has no place left.
 pub fn marks_before(size: usize, cells: &[u8]) -> Vec<Vec<u16>> {
     let mut lists = Vec::new();
     let mut taken = Vec::new();
