@@ -19,7 +19,7 @@ use Rattle.rules.specs.Mark.{marks_of}
 use Rattle.rules.proofs.GridLaws.{solution_way}
 use Rattle.rules.specs.Check.{checked, answered, refusal, puzzle_checks, count_checks, solve_checks}
 use Rattle.rules.proofs.CheckLaws.{number_positive, passed_number}
-use Rattle.rules.specs.Number.{Verdict as Found, number, verdict_of, Solution}
+use Rattle.rules.specs.Number.{Verdict as Found, number, verdict_of}
 use Rattle.rules.specs.Order.{found, first_or}
 use Rattle.grid_order.proofs.FoundLaws.{first_solution, first_same}
 use Rattle.rules.specs.Short.{symbols}
