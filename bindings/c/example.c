@@ -89,6 +89,12 @@ static void counting_and_solving(void)
     print_line("columns", columns, ": ");
     printf("%" PRIu64 " grids\n", grids);
 
+    answer = doppelblock_solve(SIZE, rows, SIZE, columns, SIZE, marks, 0, cells,
+                               CELLS);
+    expect("solve without marks", answer, DOPPELBLOCK_MULTIPLE);
+    printf("the first of them, its top right black furthest right: ");
+    print_grid(cells);
+
     answer = doppelblock_solve(SIZE, rows, SIZE, columns, SIZE, marks,
                                sizeof marks, cells, CELLS);
     expect("solve", answer, DOPPELBLOCK_UNIQUE);

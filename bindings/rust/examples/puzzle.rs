@@ -49,8 +49,13 @@ fn counting_and_solving() -> Result<(), Refusal> {
     let grids = count(3, &rows, &columns, &[], 100)?;
     println!("rows {0}, columns {0}: {grids} grids", listed(&rows));
 
-    let marks = Mark::list(&[Mark::reject(0, 0, 1)]);
     let mut cells = [EMPTY; 9];
+    let verdict = solve(3, &rows, &columns, &[], &mut cells)?;
+    assert_eq!(verdict, Verdict::Multiple);
+    let first = drawn(&cells);
+    println!("the first of them, its top right black furthest right: {first}");
+
+    let marks = Mark::list(&[Mark::reject(0, 0, 1)]);
     let verdict = solve(3, &rows, &columns, &marks, &mut cells)?;
     assert_eq!(verdict, Verdict::Unique);
     println!("one without a 1 in its first cell: {}", drawn(&cells));
