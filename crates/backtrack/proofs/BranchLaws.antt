@@ -29,7 +29,7 @@ use Rattle.set_cell.specs.Setting.{SetHit}
 use Rattle.set_cell.proofs.SetLaws.{set_table, yes_table, no_table}
 use Rattle.grid_order.specs.Remaining.{remaining}
 use Rattle.grid_order.proofs.SequenceLaws.{in_sequence}
-use Rattle.grid_order.proofs.RemainingLaws.{Leads, remaining_same, branch_order}
+use Rattle.grid_order.proofs.RemainingLaws.{OrderedBranch, remaining_same, branch_order}
 use Rattle.pick.specs.Choice.{row_choices, Open, Branch}
 use Rattle.pick.proofs.ChoiceLaws.{row_choices_lem}
 use Rattle.invariants.proofs.StateLaws.{within_sub, one_table}
@@ -110,30 +110,29 @@ module _ {n : ℕ} {l : List ℕ} {r c v : ℕ} (ready : Ready n l) (b : Branch 
 
 -- The grids that are left, in order: those of the branch that takes the value, then those of the branch that rejects it.
 module _ (p : Puzzle) {l : List ℕ} {r c v : ℕ} (ready : Ready p.size l) (b : Branch p.size l r c v) (closed : Closed p (table_in l)) where
-  leads : Leads p (table_in l) r c v
-  leads =
+  ordered : OrderedBranch p (table_in l) r c v
+  ordered =
+      let f = b.foremost in
       record {
         closed = closed;
         row_in = b.row_in;
         column_in = b.column_in;
         in_half = in_half ready b;
         here = has_it ready b;
-        before = b.foremost.before;
-        behind = b.foremost.behind;
-        whole = b.foremost.whole;
-        alone = λ s m.
-            let w = in_sequence p.size s (subst (Memᴰ s) (sym b.foremost.whole) (Memᴰ.append_left (row_value r v ∷ b.foremost.behind) m)) in
-            record {
-              row_in = w.0;
-              in_half = w.1;
-              alone = λ i h e. only_there ready b s.row i s.value w.1 e ((b.foremost.decided s m).none_open i h);
-            };
+        split = record {
+          before = f.before;
+          behind = f.behind;
+          whole = f.whole;
+          each = λ s m.
+              let w = in_sequence p.size s (subst (Memᴰ s) (sym f.whole) (Memᴰ.append_left (row_value r v ∷ f.behind) m)) in
+              record { row_in = w.0; in_half = w.1; alone = λ i h e. only_there ready b s.row i s.value w.1 e ((f.each s m).none_open i h) };
+        };
         rightmost = λ j h g e. only_there ready b r j v (in_half ready b) e (b.rightmost j h g);
       }
 
   pub branch_shared : {l₂ l₃ : List ℕ} → Struck l l₂ (SetHit r c v) → Struck l l₃ (One (r * 9 + c) v) → remaining p (table_in l) ≡ remaining p (table_in l₂) ++ remaining p (table_in l₃)
   branch_shared s d =
       let z = ready.size.high in
-      branch_order p z (table_in l) r c v leads
+      branch_order p z (table_in l) r c v ordered
       ∙ ap₂ ◌++◌ (remaining_same p (same_ext p z (λ i j w hi hj m. sym (as_taken ready b s i j w hi hj m))))
       (remaining_same p (same_ext p z (λ i j w hi hj m. sym (as_struck ready b d i j w hi hj m))))

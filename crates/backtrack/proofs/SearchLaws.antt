@@ -6,6 +6,7 @@ use mathlib.Core.List.{List, [], ◌∷◌, ◌++◌, append-nil, append_assoc}
 use native.Mathlib.Omega.{arith}
 use lib.Dec.{eqb}
 use lib.ListN.{length, take}
+use lib.Seq.{take-nil}
 use borrow.Author.Tests.{eqb-true, ne_eqb}
 use Rattle.std.proofs.lemmas.List.{length-take, length-append}
 use Rattle.tally.proofs.TallyLaws.{and_left, and_right}
@@ -58,10 +59,6 @@ take_append : (k : ℕ) (gs hs : Grids) → take k (gs ++ hs) ≡ take k gs ++ t
 take_append zero gs hs = let e : 0 - length gs ≡ 0 = omega arith in rw e
 take_append (suc k) [] hs = let e : suc k - 0 ≡ suc k = omega arith in rw e
 take_append (suc k) (g ∷ gs) hs = let e : suc k - suc (length gs) ≡ k - length gs = omega arith in rw e (ap (λ l. g ∷ l) (take_append k gs hs))
-
-take_none : (k : ℕ) → take {A = List ℕ} k [] ≡ []
-take_none zero = refl
-take_none (suc k) = refl
 
 -- the first of all is shown when the first is given
 first_next : (wanted first : Bool) (cells₀ : List ℕ) (out more : Grids) {cells : List ℕ} → first ≡ (wanted && eqb (length out) 0) → cells ≡ first_if wanted cells₀ out →
@@ -126,7 +123,7 @@ module _ {n : ℕ} {l₀ : List ℕ} {max : ℕ} {wanted : Bool} {cells₀ l : L
   module _ (under : found < max) {l' : List ℕ} where
     -- no grid is left
     pub turn_none : NoneLeft n l l' → Searched n l₀ max wanted found cells₀ cells
-    turn_none a = record { most = t.most; gives = λ p q k. so_done (t.so_far p q k) (rw (a.none p q (t.kept p q k)) (take_none (max - found))) }
+    turn_none a = record { most = t.most; gives = λ p q k. so_done (t.so_far p q k) (rw (a.none p q (t.kept p q k)) (take-nil (max - found))) }
 
     -- one grid is left
     pub turn_one : OneLeft n l l' → {first : Bool} → first ≡ (wanted && eqb found 0) → {cells' : List ℕ} →
@@ -136,13 +133,13 @@ module _ {n : ℕ} {l₀ : List ℕ} {max : ℕ} {wanted : Bool} {cells₀ l : L
           most = omega arith;
           gives = λ p q k.
               so_done (so_more (t.so_far p q k) (a.one p q (t.kept p q k)) e (record { count = ap length one; cells_hold = s ∙ ap (first_if first cells) one }))
-              (take_none (max - (found + 1)));
+              (take-nil (max - (found + 1)));
         }
       where
         one : read_off n (table_in l') ∷ [] ≡ take (max - found) (read_off n (table_in l') ∷ [])
         one =
             let z : max - found ≡ suc (max - found - 1) = omega arith in
-            rw z (ap (λ gs. read_off n (table_in l') ∷ gs) (sym (take_none (max - found - 1))))
+            rw z (ap (λ gs. read_off n (table_in l') ∷ gs) (sym (take-nil (max - found - 1))))
 
 -- ---- a branch
 

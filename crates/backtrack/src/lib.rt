@@ -59,8 +59,8 @@ fn settle(st: &[u16], n: usize, wanted: bool, cells: &mut [u8])
     }
 }
 
-// The number of grids that fit, at most max; the first in the order of grids is written to cells if it is wanted. No Option of the cells: what one points at afterwards is, in a
-// contract, a sum over its variants (tried), and the flag says it in a word.
+// The number of grids that fit, at most max; the first in the order of grids is written to cells if it is wanted. No Option of the cells: what one points at
+// afterwards is, in a contract, a sum over its variants (tried), and the flag says it in a word.
 pub fn search(
     st: &mut [u16],
     arrangements: Arrangements,

@@ -1,6 +1,6 @@
 -- The grid that Solve shows: it comes before every other, and which marks leave it shown. Assumes nothing.
 use Rattle.std.specs.Prelude.{ℕ, ◌<◌, ◌≡◌, ◌⊎◌, Bool, true, length}
-use Rattle.std.proofs.Math.Path.{sym, ap}
+use Rattle.std.proofs.Math.Path.{sym, ap, subst}
 use Rattle.std.proofs.Common.{◌∙◌, inl, inr, ⊎_elim, arith}
 use mathlib.Core.List.Memᴰ
 use mathlib.Core.List.{List, [], ◌∷◌, Permᴰ, Memᴰ}
@@ -21,7 +21,7 @@ use Rattle.corollaries.specs.Acceptance.{solve_accepted, order_passes, less_pass
 cells_first : (u : Unit) (p : Puzzle) (ms cells : List ℕ) → refusal (solve_checks u p ms (length cells)) ≡ 0 → solve_cells u p ms cells ≡ first_or cells (found p ms)
 cells_first u p ms cells e = rw e
 
--- of some grids in order, the first precedes each, and whoever keeps it keeps it first
+-- of some grids in order, the first precedes each, and of those that pass a test which it passes it is the first too
 module _ (p : Puzzle) (cells : List ℕ) where
   first_precedes : (gs : List (List ℕ)) → ordered (precedes p.size (sequence p.size)) gs ≡ true → (g : List ℕ) → Memᴰ g gs →
       (precedes p.size (sequence p.size) (first_or cells gs) g ≡ true) ⊎ (first_or cells gs ≡ g)
@@ -55,5 +55,5 @@ module _ (u : Unit) (p : Puzzle) (ms cells : List ℕ) where
       let f = cells_first u p ms cells (solve_accepted u p (m ∷ ms) ms (less_shorter [] m ms) (less_passes p [] m ms) (length cells) e) in
       cells_first u p (m ∷ ms) cells e
       ∙ ap (first_or cells) (found_more p ms m)
-      ∙ first_kept p cells (λ g. keeps_mark p.size g m) (found p ms) (omega (arith, found_length p ms)) (rw f at k)
+      ∙ first_kept p cells (λ g. keeps_mark p.size g m) (found p ms) (omega (arith, found_length p ms)) (subst (λ g. keeps_mark p.size g m ≡ true) f k)
       ∙ sym f

@@ -1,10 +1,10 @@
 -- The count from the search, and the answer from the count. Assumes nothing.
 use Prim.Native.Nat.{ℕ, ◌≤◌, min}
 use mathlib.Core.Path.{◌≡◌, sym, ap, ◌∙◌}
-use mathlib.Core.Bool.{Bool, false}
+use mathlib.Core.Bool.{Bool}
 use mathlib.Core.List.{List}
 use native.Mathlib.Omega.{arith}
-use lib.ListN.{length, take}
+use lib.ListN.{length}
 use Rattle.std.proofs.lemmas.List.{length-take}
 use Rattle.rules.proofs.CheckLaws.{checked_skip, checked_stop, passed_number, refusal_none, refusal_none_left, refusal_none_right}
 use Rattle.std.specs.Prelude.{Ok, Err}
@@ -27,11 +27,12 @@ use Rattle.soundness.proofs.GridStable.{stable_whole}
 use Rattle.soundness.proofs.MarkLaws as marks
 use Rattle.queue_state.specs.Slab.{table_in}
 use Rattle.line_laws.proofs.CellValues.{value_small}
+use Rattle.backtrack.specs.Search.{Given}
 use Rattle.grid_order.specs.Remaining.{remaining}
 use Rattle.grid_order.proofs.RemainingLaws.{remaining_length, remaining_same}
 use Rattle.grid_order.proofs.FoundLaws.{found_length, found_marked}
 use Rattle.prepare.specs.declared.Question.{Question}
-use Rattle.prepare.specs.Prepared.{Prepared, Marked}
+use Rattle.prepare.specs.Prepared.{Marked}
 use Rattle.engine.specs.Answer.{count_answer}
 
 -- ---- refusals
@@ -75,13 +76,14 @@ count_done u p ms cap r d e = rw (← d, e)
 
 -- ---- the count
 
+-- of the grids found, as many as the cap allows
+pub given_capped : (p : Puzzle) (ms : List ℕ) {cap r : ℕ} {wanted : Bool} {cells cells' : List ℕ} → Given (found p ms) cap wanted r cells cells' → r ≡ capped cap p ms
+unfolding capped
+given_capped p ms {cap} g = g.count ∙ length-take cap (found p ms) ∙ ap (min cap) (found_length p ms)
+
 module _ {p : Puzzle} {ms : List ℕ} (a : CountAsk p ms) where
   small : p.size ≤ 9
   small = a.puzzle.size.high
-
-  pub count_none : {l : List ℕ} {ok : Bool} (cap : ℕ) → Prepared p ms l ok → ok ≡ false → 0 ≡ capped cap p ms
-  unfolding capped
-  count_none cap d e = let z = d.none e in omega arith
 
   module _ {l : List ℕ} (m : Marked p ms l) where
     -- what is left in the table is what is found
@@ -92,7 +94,3 @@ module _ {p : Puzzle} {ms : List ℕ} (a : CountAsk p ms) where
 
     pub count_left : left p (table_in l) ≡ number p ms
     count_left = sym (remaining_length p (table_in l)) ∙ ap length found_left ∙ found_length p ms
-
-    pub count_found : (cap : ℕ) {r : ℕ} → r ≡ length (take cap (remaining p (table_in l))) → r ≡ capped cap p ms
-    unfolding capped
-    count_found cap e = e ∙ ap (λ gs. length (take cap gs)) found_left ∙ length-take cap (found p ms) ∙ ap (min cap) (found_length p ms)

@@ -1,10 +1,12 @@
 -- The verdict and the grid from the search. Assumes nothing.
 use Prim.Native.Nat.{ℕ, zero, suc, ◌*◌, ◌≤◌, min}
-use mathlib.Core.Path.{◌≡◌, refl, sym, ap, ◌∙◌}
-use mathlib.Core.Bool.{Bool, true, false, cond}
+use mathlib.Core.Path.{◌≡◌, refl, sym, ap, ◌∙◌, subst}
+use mathlib.Core.Bool.{Bool, true, false}
 use mathlib.Core.List.{List, [], ◌∷◌}
 use native.Mathlib.Omega.{arith}
 use lib.ListN.{length, take}
+use lib.Seq.{take-nil}
+use Rattle.std.proofs.lemmas.List.{nil_from_length}
 use borrow.Author.Tests.{eq-eqb, ne_eqb, eqb-true}
 use Rattle.std.specs.Prelude.{Ok, Err}
 use Rattle.refusal.specs.declared.Refusal.{Refusal}
@@ -21,14 +23,14 @@ use Rattle.rules.specs.Order.{found, first_or}
 use Rattle.grid_order.proofs.FoundLaws.{found_length}
 use Rattle.puzzle.specs.Stands.{puzzle_of}
 use Rattle.puzzle.proofs.PuzzleLaws.{puzzle_numbered}
-use Rattle.backtrack.specs.Search.{SearchAsk, Searched}
+use Rattle.backtrack.specs.Search.{SearchAsk, first_if, Given, Searched}
 use Rattle.rules.specs.Mark.{marks_of}
 use Rattle.prepare.specs.declared.Question.{Question}
 use Rattle.prepare.specs.Prepared.{Prepared, Marked}
 use Rattle.engine.specs.declared.Verdict.{Verdict}
 use Rattle.engine.specs.declared.Verdict.TheVariants.{Unsolvable, Unique, Multiple}
-use Rattle.engine.specs.Answer.{verdict_on, solve_answer, solve_cells, Found}
-use Rattle.engine.proofs.CountLaws.{CountAsk, question_asks, count_asked, found_left, count_found, count_none}
+use Rattle.engine.specs.Answer.{verdict_on, solve_answer, solve_cells}
+use Rattle.engine.proofs.CountLaws.{CountAsk, question_asks, count_asked, found_left, given_capped}
 
 -- ---- refusals
 
@@ -92,37 +94,27 @@ verdict_2 (suc (suc k)) a b = refl
 
 -- ---- the search
 
-first_none : (cells : List ℕ) (max : ℕ) → first_or cells (take max []) ≡ cells
-unfolding first_or
-first_none cells zero = refl
-first_none cells (suc max) = refl
-
-length_nil : (gs : List (List ℕ)) → length gs ≡ 0 → gs ≡ []
-length_nil [] e = refl
-length_nil (g ∷ gs) e = absurd (omega arith)
-
 module _ {p : Puzzle} {ms : List ℕ} (a : CountAsk p ms) where
   found_small : p.size ≤ 9
   found_small = a.puzzle.size.high
 
-  pub found_none : {max : ℕ} {wanted : Bool} {l cells : List ℕ} {ok : Bool} → Prepared p ms l ok → ok ≡ false → Found p ms max wanted 0 cells cells
-  found_none {max} {wanted} {l} {cells} d e = record { capped_count = count_none a max d e; cells_hold = sym (nothing wanted) }
+  pub found_none : {max : ℕ} {wanted : Bool} {l cells : List ℕ} {ok : Bool} → Prepared p ms l ok → ok ≡ false → Given (found p ms) max wanted 0 cells cells
+  unfolding first_or
+  found_none {max} {wanted} {l} {cells} d e =
+      let none = nil_from_length (found p ms) (found_length p ms ∙ d.none e) in
+      let n = ap (take max) none ∙ take-nil max in
+      record { count = sym (ap length n); cells_hold = sym (ap (first_if wanted cells) n ∙ nothing wanted) }
     where
-      none : found p ms ≡ []
-      none = length_nil (found p ms) (found_length p ms ∙ d.none e)
-
-      nothing : (b : Bool) → cond b (first_or cells (take max (found p ms))) cells ≡ cells
-      nothing true = ap (λ gs. first_or cells (take max gs)) none ∙ first_none cells max
+      nothing : (b : Bool) → first_if b cells [] ≡ cells
+      nothing true = refl
       nothing false = refl
 
   module _ {l : List ℕ} (m : Marked p ms l) where
     pub found_search : {wanted : Bool} {room : ℕ} → (wanted ≡ true → room ≡ p.size * p.size) → SearchAsk p.size l wanted room
     found_search f = record { lagging = m.lagging; fits = f }
 
-    pub found_grids : {max : ℕ} {wanted : Bool} {r : ℕ} {cells cells' : List ℕ} → Searched p.size l max wanted r cells cells' → Found p ms max wanted r cells cells'
-    found_grids {max} {wanted} {r} {cells} {cells'} s =
-        let g = s.gives p refl m.kept in
-        record { capped_count = count_found a m max g.count; cells_hold = g.cells_hold ∙ ap (λ gs. cond wanted (first_or cells (take max gs)) cells) (found_left a m) }
+    pub found_grids : {max : ℕ} {wanted : Bool} {r : ℕ} {cells cells' : List ℕ} → Searched p.size l max wanted r cells cells' → Given (found p ms) max wanted r cells cells'
+    found_grids {max} {wanted} {r} {cells} {cells'} s = subst (λ gs. Given gs max wanted r cells cells') (found_left a m) (s.gives p refl m.kept)
 
 pub solve_small : {p : Puzzle} {ms : List ℕ} {len : ℕ} → SolveAsk p ms len → p.size ≤ 9
 solve_small a = a.count.puzzle.size.high
@@ -145,10 +137,10 @@ unfolding first_or
 first_two cells [] = refl
 first_two cells (g ∷ gs) = refl
 
-pub solve_done : (u : Unit) (p : Puzzle) (ms cells : List ℕ) {cells' : List ℕ} {r : ℕ} (v : Verdict) → Ok tt ≡ checked (solve_checks u p ms (length cells)) → Found p ms 2 true r cells cells' →
+pub solve_done : (u : Unit) (p : Puzzle) (ms cells : List ℕ) {cells' : List ℕ} {r : ℕ} (v : Verdict) → Ok tt ≡ checked (solve_checks u p ms (length cells)) → Given (found p ms) 2 true r cells cells' →
     v ≡ verdict_on r → (Ok v ≡ solve_answer u p ms (length cells)) × (cells' ≡ solve_cells u p ms cells)
 unfolding capped
 solve_done u p ms cells v d f e =
     let q = passed_number (solve_checks u p ms (length cells)) (sym d) in
-    let c : v ≡ verdict_on (number p ms) = e ∙ ap verdict_on f.capped_count ∙ verdict_capped (number p ms) in
+    let c : v ≡ verdict_on (number p ms) = e ∙ ap verdict_on (given_capped p ms f) ∙ verdict_capped (number p ms) in
     (rw (← d, c), rw q (f.cells_hold ∙ first_two cells (found p ms)))

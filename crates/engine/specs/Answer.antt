@@ -1,5 +1,5 @@
 -- The answers of Count and of Solve, by their cases, and the grid that Solve writes. Assumes nothing.
-use Rattle.std.specs.Prelude.{ℕ, zero, suc, ◌≡◌, Bool, cond, eqb, List, length, take, Result}
+use Rattle.std.specs.Prelude.{ℕ, zero, suc, cond, eqb, List, length, Result}
 use Rattle.refusal.specs.declared.Refusal.{Refusal}
 use Rattle.units.specs.declared.Unit.{Unit}
 use Rattle.rules.specs.Grid.{Puzzle}
@@ -30,10 +30,3 @@ solve_answer u p ms len = answered (checked (solve_checks u p ms len)) (verdict_
 -- The cells after Solve in a unit: the first of the grids in order; on a refusal, and if there is none, as they were.
 abbrev pub solve_cells : Unit → Puzzle → List ℕ → List ℕ → List ℕ
 solve_cells u p ms cells = cond (eqb (refusal (solve_checks u p ms (length cells))) 0) (first_or cells (found p ms)) cells
-
--- ---- both
-
--- Grids are counted up to a number, and the first in order is in the cells if it was wanted and there is one; else these are as they were.
-pub record Found (p : Puzzle) (ms : List ℕ) (max : ℕ) (wanted : Bool) (count : ℕ) (cells cells' : List ℕ) : Type 0 where
-  pub capped_count : count ≡ capped max p ms
-  pub cells_hold : cells' ≡ cond wanted (first_or cells (take max (found p ms))) cells

@@ -5,10 +5,12 @@ ghost use Rattle.std.specs.Prelude.{◌≡◌, ◌*◌, true, length};
 ghost use Rattle.rules.specs.Mark.{marks_of};
 ghost use Rattle.rules.specs.Check.{count_checks, solve_checks};
 ghost use Rattle.rules.specs.Grid.{puzzle};
+ghost use Rattle.rules.specs.Order.{found};
 ghost use Rattle.puzzle.specs.Accepted.{Passed};
 ghost use Rattle.puzzle.specs.Stands.{puzzle_of};
 ghost use Rattle.prepare.specs.Asked.{Asks};
-ghost use Rattle.engine.specs.Answer.{count_answer, verdict_on, solve_answer, solve_cells, Found};
+ghost use Rattle.engine.specs.Answer.{count_answer, verdict_on, solve_answer, solve_cells};
+ghost use Rattle.backtrack.specs.Search.{Given};
 
 use arrangements::Arrangements;
 use backtrack::search;
@@ -47,7 +49,7 @@ fn check_count<'a>(
 // The number of a question's grids, at most max; the first in order is written if it is wanted.
 fn find_grids(q: Question, max: u64, wanted: bool, cells: &mut [u8]) -> u64
     requires { wanted ≡ true → length cells.old ≡ q.puzzle.size.n * q.puzzle.size.n }
-    ensures { Found (puzzle_of q.entry.puzzle) (marks_of q.entry.marks.now) max wanted result cells.old cells.new }
+    ensures { Given (found (puzzle_of q.entry.puzzle) (marks_of q.entry.marks.now)) max wanted result cells.old cells.new }
 {
     // Made here and in candidates: given by a function, both would be copied.
     let mut st = [0u16; Slab::SIZE];

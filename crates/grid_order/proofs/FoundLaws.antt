@@ -58,24 +58,23 @@ module _ (p : Puzzle) (ms : List ℕ) where
 
   -- The first of them, where there is one: a solution, whatever stands for it where there is none.
   module _ (some : 0 < number p ms) where
-    first_of : {P : List ℕ → Type 0} → ((g : List ℕ) → Memᴰ g (found p ms) → P g) → (before : List ℕ) → P (first_or before (found p ms))
-    unfolding first_or
-    first_of {P} f before = go (found p ms) found_length f
+    some_found : (g : List ℕ) × (gs : List (List ℕ)) × (found p ms ≡ g ∷ gs)
+    some_found = go (found p ms) found_length
       where
-        go : (gs : List (List ℕ)) → length gs ≡ number p ms → ((g : List ℕ) → Memᴰ g gs → P g) → P (first_or before gs)
-        go [] e f = absurd (omega arith)
-        go (g ∷ gs) e f = f g (Memᴰ.head refl)
+        go : (l : List (List ℕ)) → length l ≡ number p ms → (g : List ℕ) × (gs : List (List ℕ)) × (l ≡ g ∷ gs)
+        go [] e = absurd (omega arith)
+        go (g ∷ gs) e = (g, gs, refl)
 
     pub first_solution : (before : List ℕ) → Solution p ms (first_or before (found p ms))
-    first_solution = first_of (λ g m. found_solution m)
+    unfolding first_or
+    first_solution before =
+        let s = some_found in
+        let m : Memᴰ s.0 (found p ms) = subst (Memᴰ s.0) (sym s.2) (Memᴰ.head refl) in
+        subst (λ l. Solution p ms (first_or before l)) (sym s.2) (found_solution m)
 
     pub first_same : (a b : List ℕ) → first_or a (found p ms) ≡ first_or b (found p ms)
     unfolding first_or
-    first_same a b = go (found p ms) found_length
-      where
-        go : (gs : List (List ℕ)) → length gs ≡ number p ms → first_or a gs ≡ first_or b gs
-        go [] e = absurd (omega arith)
-        go (g ∷ gs) e = refl
+    first_same a b = rw some_found.2
 
   -- ONE MARK MORE: those that keep it, in the same order.
   pub found_more : (m : ℕ) → found p (m ∷ ms) ≡ keep (λ g. keeps_mark p.size g m) (found p ms)

@@ -7,6 +7,7 @@ use mathlib.Core.List.{List, [], ◌∷◌, ◌++◌, Memᴰ}
 use native.Mathlib.Omega.{arith}
 use native.Mathlib.Decide.{dec_lt}
 use lib.ListN.{length}
+use Rattle.std.proofs.lemmas.List.{nil_from_length}
 use Rattle.tally.specs.Tally.{keep}
 use Rattle.tally.specs.Way.{Way}
 use Rattle.tally.proofs.TallyLaws.{and_left, and_right, and_both}
@@ -27,6 +28,7 @@ use Rattle.line_laws.proofs.CellValues.{half_every}
 use Rattle.soundness.specs.SameGrids.{SameGrids}
 use Rattle.soundness.proofs.Taken.{taken_fits, struck_fits}
 use Rattle.grid_order.specs.Remaining.{remaining}
+use Rattle.grid_order.specs.Split.{Split}
 use Rattle.grid_order.proofs.PrecedesLaws.{precedes_first}
 use Rattle.grid_order.proofs.PlaceLaws.{Alone, place_is, place_has, same_place}
 
@@ -52,11 +54,7 @@ module _ (p : Puzzle) where
   remaining_same {t} {u} a = ap (in_order p.size) (keep_grids (fits p.size t) (fits p.size u) a.same)
 
   pub remaining_none : (t : Table) → left p t ≡ 0 → remaining p t ≡ []
-  remaining_none t e = go (remaining p t) (remaining_length t ∙ e)
-    where
-      go : (l : List (List ℕ)) → length l ≡ 0 → l ≡ []
-      go [] q = refl
-      go (g ∷ l) q = absurd (omega arith)
+  remaining_none t e = nil_from_length (remaining p t) (remaining_length t ∙ e)
 
   in_remaining : (t : Table) {g : List ℕ} → GridOf p g → fits p.size t g ≡ true → Memᴰ g (remaining p t)
   unfolding remaining in_order grids
@@ -72,19 +70,16 @@ module _ (p : Puzzle) where
 
 -- What a branch on the value v of row r and column c asks of the table: it is closed, the values before it in the sequence are alone where they stand, and so
 -- is this one further right in the row.
-pub record Leads (p : Puzzle) (t : Table) (r c v : ℕ) : Type 0 where
+pub record OrderedBranch (p : Puzzle) (t : Table) (r c v : ℕ) : Type 0 where
   pub closed : Closed p t
   pub row_in : r < p.size
   pub column_in : c < p.size
   pub in_half : Memᴰ v (half p.size 8)
   pub here : t r c v ≡ true
-  pub before : List RowValue
-  pub behind : List RowValue
-  pub whole : sequence p.size ≡ before ++ row_value r v ∷ behind
-  pub alone : (s : RowValue) → Memᴰ s before → Alone p.size t s
+  pub split : Split (row_value r v) (sequence p.size) (Alone p.size t)
   pub rightmost : (j : ℕ) → c < j → j < p.size → t r j v ≡ true → Only p.size t (across r) j v
 
-module _ (p : Puzzle) (small : p.size ≤ 9) (t : Table) (r c v : ℕ) (b : Leads p t r c v) where
+module _ (p : Puzzle) (small : p.size ≤ 9) (t : Table) (r c v : ℕ) (b : OrderedBranch p t r c v) where
   -- the value stands no further right in the table
   at_most : (j : ℕ) → j < p.size → t r j v ≡ true → j ≤ c
   unfolding first_black places index
@@ -110,8 +105,8 @@ module _ (p : Puzzle) (small : p.size ≤ 9) (t : Table) (r c v : ℕ) (b : Lead
       let o = place_has p small h dh s b.row_in b.in_half t fh in
       let other : o.0 ≡ c → ⊥ = λ q. true≢false (sym o.2 ∙ ap (λ j. has p.size h r j v) q ∙ f) in
       let nearer = at_most o.0 o.1 o.4 in
-      rw b.whole
-      (precedes_first p.size b.before b.behind s g h (λ x m. same_place p small t b.closed x (b.alone x m) g h dg dh fg fh) (omega (arith, in_g, o.3, other, nearer)))
+      rw b.split.whole
+      (precedes_first p.size b.split.before b.split.behind s g h (λ x m. same_place p small t b.closed x (b.split.each x m) g h dg dh fg fh) (omega (arith, in_g, o.3, other, nearer)))
 
   both_apart : (x y : List ℕ) → Memᴰ x (keep stays (grids p.size)) → Memᴰ y (keep stays (grids p.size)) → has_it x ≡ true → has_it y ≡ false →
       (precedes p.size (sequence p.size) x y ≡ true) × (precedes p.size (sequence p.size) y x ≡ false)

@@ -13,7 +13,8 @@ use Rattle.rules.specs.Grid.{digits}
 use Rattle.rules.specs.Mark.{left_black, right_black}
 use Rattle.rules.specs.Order.{RowValue, row_value, black_sequence, digit_sequence, sequence}
 use Rattle.table.specs.Table.{half}
-use Rattle.grid_order.proofs.SplitLaws.{Split, split_each, split_head, split_tail, split_left, split_right, split_join, split_map, split_span, split_reverse, in_reverse}
+use Rattle.grid_order.specs.Split.{Split}
+use Rattle.grid_order.proofs.SplitLaws.{split_each, split_head, split_tail, split_left, split_right, split_join, split_map, split_span, split_reverse, in_reverse}
 
 -- What comes before a black: blacks of the rows above, and of its row the right one.
 pub record BeforeBlack (r v : ℕ) (t : RowValue) : Type 0 where

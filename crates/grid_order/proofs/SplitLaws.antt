@@ -1,4 +1,4 @@
--- A list split at one of its elements, and what holds of those before. Assumes nothing.
+-- Lists split at one of their elements. Assumes nothing.
 use Prim.Native.Nat.{ℕ, zero, suc, ◌+◌, ◌≤◌, ◌<◌}
 use mathlib.Core.Path.{◌≡◌, refl, sym, ap, ◌∙◌, subst}
 use mathlib.Core.Logic.{⊎_elim}
@@ -11,13 +11,7 @@ use Rattle.tally.specs.Tally.{span, join}
 use Rattle.tally.proofs.TallyLaws.{span_in}
 use Rattle.tally.proofs.WayLaws.{of_map}
 use Rattle.line_laws.proofs.Lists.{of_join}
-
--- The list has x, and P holds of those before it.
-pub record Split {A : Type 0} (x : A) (xs : List A) (P : A → Type 0) : Type 0 where
-  pub before : List A
-  pub behind : List A
-  pub whole : xs ≡ before ++ x ∷ behind
-  pub each : (y : A) → Memᴰ y before → P y
+use Rattle.grid_order.specs.Split.{Split}
 
 module _ {A : Type 0} where
   pub split_each : {x : A} {xs : List A} {P Q : A → Type 0} → Split x xs P → ((y : A) → P y → Q y) → Split x xs Q

@@ -16,10 +16,10 @@ use Rattle.bits.proofs.BitLaws.{bit_none}
 use Rattle.table.specs.Value.{ValueOf}
 use Rattle.queue_state.specs.Ready.{Ready}
 use Rattle.queue_state.proofs.ReadyLaws.{ready_valid}
-use Rattle.grid_order.proofs.SplitLaws.{Split}
+use Rattle.grid_order.proofs.SplitLaws.{split_each}
 use Rattle.grid_order.proofs.SequenceLaws.{BeforeBlack, BeforeDigit, split_black, split_digit}
 use Rattle.pick.specs.declared.RowValue.{RowValue}
-use Rattle.pick.specs.Choice.{row_choices, Open, Decided, Foremost, Branch}
+use Rattle.pick.specs.Choice.{row_choices, Open, Decided, Branch}
 use Rattle.pick.specs.Scanning.{OpenValues, Undecided, Leading, Led, greater_of, FirstValue, LastColumn}
 use Rattle.pick.proofs.OpenLaws.{some_open, highest_here, highest_above}
 
@@ -51,9 +51,6 @@ module _ {l : List ℕ} where
 -- ---- the value
 
 module _ {n : ℕ} {l : List ℕ} where
-  foremost_of : {s : order.RowValue} {P : order.RowValue → Type 0} → Split s (sequence n) P → ((t : order.RowValue) → P t → Decided n l t) → Foremost n l s
-  foremost_of s f = record { before = s.before; behind = s.behind; whole = s.whole; decided = λ t m. f t (s.each t m) }
-
   pub led_start : Led n l 0 None
   led_start r c w h = absurd (omega arith)
 
@@ -92,7 +89,7 @@ module _ {n : ℕ} {l : List ℕ} where
 
     -- a black: what is open above is no black, and in the row nothing is above it
     pub lead_black : 8 ≤ v → (best : Option RowValue) → Led n l k best → FirstValue n l (Some (record { row = k; value = v }))
-    lead_black h best led = (top, foremost_of (split_black row_in v which) decided)
+    lead_black h best led = (top, split_each (split_black row_in v which) decided)
       where
         range : v < 10
         range = top.open_here.candidate.high
@@ -161,7 +158,7 @@ module _ {n : ℕ} {l : List ℕ} where
   pub lead_done : Ready n l → (best : Option RowValue) → Led n l n best → FirstValue n l best
   unfolding ValueOf
   lead_done ready None led = led
-  lead_done ready (Some s) led = (u, foremost_of (split_digit u.row_in ready.size.high s.value u.open_here.candidate.low digit) decided)
+  lead_done ready (Some s) led = (u, split_each (split_digit u.row_in ready.size.high s.value u.open_here.candidate.low digit) decided)
     where
       u : Undecided n l s
       u = led.undecided

@@ -1,7 +1,8 @@
 -- What is picked: a value of a cell that is open, the first in the sequence of values that still has a choice, at its rightmost place. Assumes nothing.
 use Rattle.std.specs.Prelude.{ℕ, ◌+◌, ◌*◌, ◌/◌, ◌%◌, ◌≤◌, ◌<◌, ◌≡◌, Option, Some, None}
-use mathlib.Core.List.{List, ◌∷◌, ◌++◌, Memᴰ}
+use mathlib.Core.List.{List}
 use Rattle.rules.specs.Order.{RowValue, row_value, sequence}
+use Rattle.grid_order.specs.Split.{Split}
 use Rattle.bits.specs.Sum.{sum_over}
 use Rattle.queue_state.specs.Slab.{cand}
 use Rattle.value.specs.declared.Candidate.{Candidate}
@@ -26,11 +27,8 @@ pub record Decided (n : ℕ) (l : List ℕ) (s : RowValue) : Type 0 where
   pub none_open : (c : ℕ) → c < n → Open l (s.row * 9 + c) s.value → ⊥
 
 -- The values before this one in the sequence have no choice left.
-pub record Foremost (n : ℕ) (l : List ℕ) (s : RowValue) : Type 0 where
-  pub before : List RowValue
-  pub behind : List RowValue
-  pub whole : sequence n ≡ before ++ s ∷ behind
-  pub decided : (t : RowValue) → Memᴰ t before → Decided n l t
+abbrev pub Foremost : ℕ → List ℕ → RowValue → Type 0
+Foremost n l s = Split s (sequence n) (Decided n l)
 
 -- What may be branched on: of an open cell of row r, in column c, the value v; no value before it in the sequence has a choice left, and no open cell further
 -- right in the row has the value.

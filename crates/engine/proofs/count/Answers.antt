@@ -1,6 +1,6 @@
 -- `engine::count` meets its contract. Assumes nothing.
 use Rattle.std.proofs.lemmas.Result.{err_from_is_err_and}
-use Rattle.engine.proofs.CountLaws.{count_refused, count_done}
+use Rattle.engine.proofs.CountLaws.{count_refused, count_done, given_capped}
 use Rattle.engine.proofs.count.Goals as goal
 
 pub returns-in_err-question : goal.returns-in_err-question
@@ -11,4 +11,4 @@ returns-in_err-question c =
 pub returns : goal.returns
 returns c =
     let e = c.in_ok-question.ensures in
-    count_done _ _ _ _ _ e.0 (rw (e.1.0, e.1.1) at c.find_grids.ensures.capped_count)
+    count_done _ _ _ _ _ e.0 (given_capped _ _ (rw (e.1.0, e.1.1) at c.find_grids.ensures))
