@@ -1,7 +1,9 @@
-//! `bench [ROUNDS]` times all calls; `bench searches` times long counts; `bench choose`
-//! prints the size 9 list; `bench stack` measures the stack of the calls that search;
+//! `bench [ROUNDS]` times all calls; `bench batch [ROUNDS]` times the kept puzzles of size 8
+//! and fails if the engine is too slow on them; `bench searches` times long counts; `bench
+//! choose` prints the size 9 list; `bench stack` measures the stack of the calls that search;
 //! `bench sheet` times whole programs.
 
+mod batch;
 mod marking;
 mod measure;
 mod puzzles;
@@ -14,16 +16,24 @@ mod sums;
 use std::env;
 use std::process::ExitCode;
 
-const USAGE: &str =
-    "usage: bench [ROUNDS] | bench searches | bench choose | bench stack | bench sheet [6 | 8]";
+const USAGE: &str = "usage: bench [ROUNDS] | bench batch [ROUNDS] | bench searches | \
+                     bench choose | bench stack | bench sheet [6 | 8]";
 
 const ROUNDS: usize = 9;
+
+/// A round of the kept puzzles takes some 25 seconds.
+const BATCH_ROUNDS: usize = 3;
 
 fn main() -> ExitCode {
     let words: Vec<String> = env::args().skip(1).collect();
     let words: Vec<&str> = words.iter().map(String::as_str).collect();
     match words[..] {
         [] => time_all(ROUNDS),
+        ["batch"] => return time_batch(BATCH_ROUNDS),
+        ["batch", rounds] => match rounds.parse() {
+            Ok(rounds @ 1..) => return time_batch(rounds),
+            _ => return usage(),
+        },
         ["searches"] => time_searches(),
         ["choose"] => puzzles::choose(),
         ["stack"] => stack::run(&puzzles::deep()),
@@ -49,6 +59,15 @@ fn time_all(rounds: usize) {
     sums::run(rounds);
     marking::run(rounds);
     searching::run(rounds);
+}
+
+fn time_batch(rounds: usize) -> ExitCode {
+    say_how_built();
+    if batch::run(rounds) {
+        ExitCode::SUCCESS
+    } else {
+        ExitCode::FAILURE
+    }
 }
 
 fn time_searches() {

@@ -14,9 +14,9 @@ pub struct Pair<'a> {
 
 /// Nanoseconds for one call on one input.
 #[derive(Clone, Copy)]
-struct Times {
-    engine: f64,
-    rust: f64,
+pub struct Times {
+    pub engine: f64,
+    pub rust: f64,
 }
 
 /// How often the inputs are gone through, and how often a call is repeated
@@ -27,20 +27,50 @@ pub struct Effort {
     pub repeats: u32,
 }
 
-/// Times all pairs and prints a table. Each round runs every input on both
-/// sides, one right after the other, and the side that starts alternates.
+/// Times all pairs and prints a table.
 pub fn measure(title: &str, pairs: &mut [Pair], effort: Effort) {
-    let mut rounds: Vec<Vec<Times>> = Vec::new();
-    for round in 0..effort.rounds {
-        let times = pairs.iter_mut().enumerate();
-        rounds.push(
-            times
-                .map(|(i, pair)| paired(pair, effort, (round + i) % 2 == 0))
-                .collect(),
-        );
-    }
+    let rounds = in_rounds(effort.rounds, pairs, |pair, engine_first| {
+        paired(pair, effort, engine_first)
+    });
     print_title(title, pairs.len(), effort);
-    print(&rounds);
+    print_pairs(&rounds);
+}
+
+/// Each round goes through every input; whether the engine starts alternates.
+pub fn in_rounds<I, T>(
+    rounds: usize,
+    inputs: &mut [I],
+    time: impl Fn(&mut I, bool) -> T,
+) -> Vec<Vec<T>> {
+    let one_round = |round| {
+        let inputs = inputs.iter_mut().enumerate();
+        inputs
+            .map(|(i, input)| time(input, (round + i) % 2 == 0))
+            .collect()
+    };
+    (0..rounds).map(one_round).collect()
+}
+
+/// Runs both sides, one right after the other.
+pub fn both<E, R>(
+    engine_first: bool,
+    engine: impl FnOnce() -> E,
+    rust: impl FnOnce() -> R,
+) -> (E, R) {
+    if engine_first {
+        let engine = engine();
+        (engine, rust())
+    } else {
+        let rust = rust();
+        (engine(), rust)
+    }
+}
+
+/// How many nanoseconds it ran, and what it gave.
+pub fn clocked<T>(run: impl FnOnce() -> T) -> (f64, T) {
+    let start = Instant::now();
+    let given = run();
+    (start.elapsed().as_nanos() as f64, given)
 }
 
 /// Times the engine without the Rust and prints its row of the table. Gives the place of
@@ -59,29 +89,28 @@ pub fn measure_alone(title: &str, calls: &mut [Call], effort: Effort) -> usize {
 }
 
 fn paired(pair: &mut Pair, effort: Effort, engine_first: bool) -> Times {
-    let ((engine, by_engine), (rust, by_rust)) = if engine_first {
-        let engine = timed(&mut pair.engine, effort.repeats);
-        (engine, timed(&mut pair.rust, effort.repeats))
-    } else {
-        let rust = timed(&mut pair.rust, effort.repeats);
-        (timed(&mut pair.engine, effort.repeats), rust)
-    };
+    let ((engine, by_engine), (rust, by_rust)) = both(
+        engine_first,
+        || timed(&mut pair.engine, effort.repeats),
+        || timed(&mut pair.rust, effort.repeats),
+    );
     assert_eq!(by_engine, by_rust, "the sides differ: run compare");
     Times { engine, rust }
 }
 
 /// The time of one call, and what the last one gave.
 fn timed(call: &mut dyn FnMut() -> u64, repeats: u32) -> (f64, u64) {
-    let start = Instant::now();
-    let mut given = 0;
-    for _ in 0..repeats {
-        given = call();
-    }
-    let nanoseconds = start.elapsed().as_nanos() as f64;
+    let (nanoseconds, given) = clocked(|| {
+        let mut given = 0;
+        for _ in 0..repeats {
+            given = call();
+        }
+        given
+    });
     (nanoseconds / f64::from(repeats), given)
 }
 
-fn print_title(title: &str, inputs: usize, effort: Effort) {
+pub fn print_title(title: &str, inputs: usize, effort: Effort) {
     let Effort { rounds, repeats } = effort;
     println!("{title}: {inputs} inputs, {rounds} rounds, {repeats} calls each");
 }
@@ -94,7 +123,8 @@ fn print_sides(sides: &[(&str, &Spread)]) {
     }
 }
 
-fn print(rounds: &[Vec<Times>]) {
+/// Prints the table of both sides. Gives the ratio of the totals, the median over the rounds.
+pub fn print_pairs(rounds: &[Vec<Times>]) -> f64 {
     let engine = Spread::of(each_input(rounds, |times| times.engine));
     let rust = Spread::of(each_input(rounds, |times| times.rust));
     let ratios = sorted(rounds.iter().map(|round| {
@@ -108,13 +138,14 @@ fn print(rounds: &[Vec<Times>]) {
         shown_ratio(pair.map_or(f64::NAN, |(engine, rust)| engine / rust))
     });
     println!("  ratio  {median:>11} {p99:>11} {largest:>11} {total:>11}");
+    let ratio = quantile(&ratios, 0.5);
     println!(
-        "  ratio of the totals over the rounds: {} to {}, median {}",
+        "  ratio of the totals over the rounds: {} to {}, median {}\n",
         shown_ratio(ratios[0]),
         shown_ratio(ratios[ratios.len() - 1]),
-        shown_ratio(quantile(&ratios, 0.5))
+        shown_ratio(ratio)
     );
-    println!();
+    ratio
 }
 
 /// Two digits behind the point, and four where these would be about nought.

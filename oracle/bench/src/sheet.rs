@@ -28,7 +28,7 @@ pub fn run(sizes: &[usize]) -> Result<(), String> {
     let driver = found(driver_path(), "build it in the profile of bench")?;
     for (size, rounds) in ROUNDS.into_iter().filter(|(size, _)| sizes.contains(size)) {
         let puzzles = timed(size);
-        let lines = lines_of(&puzzles);
+        let lines = inputs::lines_of(&puzzles);
         let mut sides = vec![
             Side::program("sheet", &sheet, &lines),
             Side::program("driver", &driver, &lines),
@@ -70,11 +70,6 @@ fn found(program: PathBuf, advice: &str) -> Result<PathBuf, String> {
     } else {
         Err(format!("no program at {}: {advice}", program.display()))
     }
-}
-
-fn lines_of(puzzles: &[Puzzle]) -> Vec<u8> {
-    let line = |puzzle| [inputs::line_of(puzzle), vec![b'\n']].concat();
-    puzzles.iter().flat_map(line).collect()
 }
 
 /// What is timed, with the nanoseconds of each round.
@@ -223,8 +218,7 @@ fn spread(values: impl Iterator<Item = f64>) -> [f64; 3] {
 mod tests {
     use std::path::Path;
 
-    use super::{Side, lines_of, output_of, time};
-    use crate::puzzles::timed;
+    use super::{Side, output_of, time};
 
     #[test]
     fn a_program_gets_and_gives_more_than_a_pipe_holds() {
@@ -254,16 +248,5 @@ mod tests {
         assert!(time(&mut [gives(OTHER), gives(OTHER)], LINE, 1).is_err());
         assert!(time(&mut [gives(b"unsolvable\n"), gives(FIRST)], LINE, 1).is_err());
         assert!(time(&mut [gives(b""), gives(FIRST)], LINE, 1).is_err());
-    }
-
-    #[test]
-    fn each_puzzle_has_a_line_with_its_end() {
-        let lines = lines_of(&timed(6));
-        assert_eq!(lines.last(), Some(&b'\n'));
-        let sizes = lines.split_inclusive(|&byte| byte == b'\n').map(|line| {
-            let read = rules::line_puzzle(&line[..line.len() - 1]);
-            read.map(|puzzle| puzzle.size)
-        });
-        assert_eq!(sizes.collect::<Vec<_>>(), vec![Ok(6); 1000]);
     }
 }

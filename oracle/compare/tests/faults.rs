@@ -2,6 +2,7 @@
 
 use std::time::Duration;
 
+use compare::batch::{self, Batch};
 use compare::candidates::Candidates;
 use compare::count::Count;
 use compare::engine::{Engine, Question};
@@ -175,6 +176,10 @@ fn found_in_count(count: Counting) -> String {
     found::<Count>(&Faulty { count, ..GOOD }).expect("the fault is found")
 }
 
+fn found_in_batch(count: Counting) -> String {
+    found::<Batch>(&Faulty { count, ..GOOD }).expect("the fault is found")
+}
+
 fn found_in_solve(solve: IntoBytes) -> String {
     found::<Solve>(&Faulty { solve, ..GOOD }).expect("the fault is found")
 }
@@ -184,7 +189,7 @@ fn found_in_candidates(candidates: IntoBytes) -> String {
 }
 
 fn is_long(family: &str) -> bool {
-    family.starts_with("size 3") || family.starts_with("size 4")
+    family.starts_with("size 3") || family.starts_with("size 4") || family == batch::FAMILY
 }
 
 /// Without the long lists, which the linked engine goes through in full. Where there are
@@ -427,6 +432,40 @@ fn a_mark_looked_at_before_the_targets_is_found() {
             },
         );
     assert!(input.starts_with("size 2"));
+}
+
+/// The count at size 8 without a look, where nothing is refused.
+fn count_of_size_8(grids: u64, unit: Unit, asked: Question, cap: u64, count: &mut u64) -> u8 {
+    if asked.size != 8 || refusal(unit, asked).is_some() {
+        return good_count(unit, asked, cap, count);
+    }
+    *count = grids;
+    0
+}
+
+#[test]
+fn one_grid_too_many_of_a_kept_puzzle_is_found() {
+    let input =
+        found_in_batch(|unit, asked, cap, count| count_of_size_8(cap + 1, unit, asked, cap, count));
+    assert!(input.starts_with("size 8") && input.ends_with("cap 1"));
+}
+
+#[test]
+fn a_second_grid_of_a_kept_puzzle_that_is_overlooked_is_found() {
+    let input =
+        found_in_batch(|unit, asked, cap, count| count_of_size_8(1, unit, asked, cap, count));
+    assert!(input.starts_with("size 8") && input.ends_with("cap 2"));
+}
+
+/// A difference at smaller sizes as well is shown at the smallest.
+#[test]
+fn a_kept_puzzle_leads_to_a_smaller_one() {
+    let input = found_in_batch(|unit, asked, cap, count| {
+        let number = count_of_size_8(cap, unit, asked, cap, count);
+        *count += u64::from(number == 0);
+        number
+    });
+    is_smallest(&input, "], cap 0");
 }
 
 #[test]

@@ -12,8 +12,8 @@ pub use asked::{
 pub use cells::{
     any_byte, blacks_of_a_grid, damage, grid, random_cells, sums_near_255, transposed,
 };
-pub use lines::{line_of, stream};
-pub use puzzles::{Puzzle, different_puzzles, puzzle, short_puzzle};
+pub use lines::{line_of, lines_of, stream};
+pub use puzzles::{Puzzle, different_puzzles, puzzle, puzzle_of, short_puzzle};
 pub use rand::{Rng, SeededRng};
 
 /// Sizes that are refused. Some have an accepted size in their low bits, one

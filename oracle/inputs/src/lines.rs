@@ -19,6 +19,12 @@ pub fn line_of(puzzle: &Puzzle) -> Vec<u8> {
     joined(&numbers_of(puzzle))
 }
 
+/// The lines of these puzzles, each with its line end.
+pub fn lines_of(puzzles: &[Puzzle]) -> Vec<u8> {
+    let line = |puzzle| [line_of(puzzle), vec![b'\n']].concat();
+    puzzles.iter().flat_map(line).collect()
+}
+
 /// So many lines, drawn from this seed. The last one is a puzzle and lacks its
 /// line end. Faults are put into puzzles of earlier lines: these are soon solved
 /// even by a program that does not see the fault.

@@ -1,6 +1,6 @@
 use std::collections::HashSet;
 
-use inputs::{line_of, puzzle, stream};
+use inputs::{different_puzzles, line_of, lines_of, puzzle, stream};
 use rules::line_puzzle;
 
 fn lines(stream: &[u8]) -> Vec<&[u8]> {
@@ -17,6 +17,17 @@ fn a_puzzle_is_read_back_from_its_line() {
             (puzzle.size, puzzle.rows, puzzle.columns)
         );
     }
+}
+
+#[test]
+fn each_puzzle_has_a_line_with_its_end() {
+    let lines = lines_of(&different_puzzles(6, 1000));
+    assert_eq!(lines.last(), Some(&b'\n'));
+    let sizes = lines.split_inclusive(|&byte| byte == b'\n').map(|line| {
+        let read = line_puzzle(&line[..line.len() - 1]);
+        read.map(|puzzle| puzzle.size)
+    });
+    assert_eq!(sizes.collect::<Vec<_>>(), vec![Ok(6); 1000]);
 }
 
 #[test]

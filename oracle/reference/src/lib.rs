@@ -36,5 +36,8 @@ mod sums;
 pub use draw::random_grid;
 pub use limit::Limit;
 pub use marking::is_right;
-pub use solver::{Solved, accepts, candidates, count, count_within, opens, solve, solve_within};
+pub use solver::{
+    ReadySolver, Solved, accepts, candidates, count, count_within, opens, ready_solver, solve,
+    solve_within,
+};
 pub use sums::{ReadyGrid, overflow_is_checked, ready_grid, target_sums};

@@ -44,6 +44,21 @@ pub fn count(size: usize, rows: &[u8], columns: &[u8], marks: &[u16], cap: usize
     })
 }
 
+/// A solver that is built, to time `count_solutions` alone.
+pub trait ReadySolver {
+    fn count(&self, cap: usize) -> usize;
+}
+
+impl<const N: usize> ReadySolver for QueueSolverState<N, SearchNodes> {
+    fn count(&self, cap: usize) -> usize {
+        self.count_solutions(cap)
+    }
+}
+
+pub fn ready_solver(size: usize, rows: &[u8], columns: &[u8]) -> Box<dyn ReadySolver> {
+    with_size!(size, N => Box::new(marked::<N, SearchNodes>(rows, columns, &[])))
+}
+
 /// The verdict and the first grid.
 pub fn solve(size: usize, rows: &[u8], columns: &[u8], marks: &[u16]) -> Solved {
     with_size!(size, N => outcome(marked::<N, SearchNodes>(rows, columns, marks).solve()))

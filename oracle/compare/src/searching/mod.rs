@@ -55,36 +55,45 @@ impl<S: Searching> Call for S {
         families::families()
     }
 
-    /// What both units take has to come back the same from both.
     fn check(engine: &dyn Engine, input: &Self::Input) -> Result<Answer, String> {
         let accepted = Accepted::of(&input.asked);
         let hall = match S::refusal(Unit::HALL, &input.asked, input.rest) {
             Some(number) => Some(Expected::refused(number)),
             None => S::expected(&accepted, input.rest)?,
         };
-        let refused = S::refusal(Unit::CLASSROOM, &input.asked, input.rest);
-        if let Some(number) = refused {
-            let left = left_by::<S>(engine, Unit::CLASSROOM, input)?;
-            let right = Expected::refused(number).judged(engine, &left);
-            in_unit(Unit::CLASSROOM, right)?;
-        }
-        let Some(hall) = hall else {
-            return Ok(Answer::of(SKIPPED, refused));
-        };
-        let left = left_by::<S>(engine, Unit::HALL, input)?;
-        let right = in_unit(Unit::HALL, hall.judged(engine, &left))?;
-        if refused.is_none() {
-            the_same(&left, &left_by::<S>(engine, Unit::CLASSROOM, input)?)?;
-        }
-        Ok(Answer {
-            beside: right.beside,
-            ..Answer::of(right.label, refused)
-        })
+        checked::<S>(engine, input, hall)
     }
 
     fn simpler(input: &Self::Input) -> Vec<Self::Input> {
         smaller::smaller(input)
     }
+}
+
+/// Runs the engine, told what has to come back in the hall; `None` if nobody knows. What
+/// both units take has to come back the same from both.
+pub fn checked<S: Searching>(
+    engine: &dyn Engine,
+    input: &Input<S::Rest>,
+    hall: Option<Expected<S::Written>>,
+) -> Result<Answer, String> {
+    let refused = S::refusal(Unit::CLASSROOM, &input.asked, input.rest);
+    if let Some(number) = refused {
+        let left = left_by::<S>(engine, Unit::CLASSROOM, input)?;
+        let right = Expected::refused(number).judged(engine, &left);
+        in_unit(Unit::CLASSROOM, right)?;
+    }
+    let Some(hall) = hall else {
+        return Ok(Answer::of(SKIPPED, refused));
+    };
+    let left = left_by::<S>(engine, Unit::HALL, input)?;
+    let right = in_unit(Unit::HALL, hall.judged(engine, &left))?;
+    if refused.is_none() {
+        the_same(&left, &left_by::<S>(engine, Unit::CLASSROOM, input)?)?;
+    }
+    Ok(Answer {
+        beside: right.beside,
+        ..Answer::of(right.label, refused)
+    })
 }
 
 /// Puzzle and marks, and what the call gets besides.
