@@ -22,14 +22,6 @@ use Rattle.table.specs.Lines.{cell_at, black_at}
 use Rattle.lane.proofs.LaneLaws.{cell_row, cell_column}
 use Rattle.arcs.specs.Sweep.{UnsupportedIn, LineMoved, Removed, Outlives, untouched, backed, AllAlive, Same}
 
--- a line has a cell at one place only
-pub cell_once : (ℓ p q : ℕ) → cell_at ℓ p ≡ cell_at ℓ q → p ≡ q
-cell_once ℓ p q e =
-    elim (dec_lt ℓ 9) [
-      | yes h ↦ omega (arith, cell_row ℓ p h, cell_row ℓ q h)
-      | no h ↦ omega (arith, cell_column ℓ p (omega arith), cell_column ℓ q (omega arith))
-    ]
-
 -- ---- alive
 
 -- what serves it does so by its lag alone

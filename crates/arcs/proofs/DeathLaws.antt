@@ -12,9 +12,8 @@ use Rattle.bits.specs.Bit.{bit}
 use Rattle.bits.proofs.BitLaws.{bit_lt}
 use Rattle.rules.specs.Size.{Size}
 use Rattle.table.specs.Closed.{place, allows}
-use Rattle.queue_state.specs.Slab.{cand, tail, Grown}
+use Rattle.queue_state.specs.Slab.{cand, line_mask}
 use Rattle.queue_state.proofs.SlabLaws.{cand_in}
-use Rattle.queue_state.proofs.ReadyLaws.{grown_same}
 use Rattle.lane.specs.declared.Lane.{Lane}
 use Rattle.words.specs.Word.{mask_in, size_in, Known, arrangement_of, word_of, set_of, inner_of, from_of, to_of, steps, pattern, part}
 use Rattle.words.proofs.WordFacts.{mask_even}
@@ -28,7 +27,7 @@ use Rattle.arcs.proofs.KillLaws.{black_low, set_high}
 use Rattle.arcs.proofs.LineLaws.{line_absent, emptied, unplaced}
 use Rattle.arcs.specs.Sweep.{Outlives, untouched, backed}
 use Rattle.arcs.proofs.TestLaws.{test_taken, test_left, apart, meeting}
-use Rattle.arcs.specs.Have.{test_of, Have, Tested}
+use Rattle.arcs.specs.Have.{test_of, Have, HavingAsk, Tested}
 
 -- ---- the places that have a digit
 
@@ -37,11 +36,11 @@ module _ (lane : Lane) where
   lane_cand l q v h =
       ap (λ x. bit v (get_or l x 0)) (lane.cells q h) ∙ sym (cand_in l (cell_at lane.number q) v (cell_in lane.number q lane.within h))
 
-  -- as long as nothing is struck
-  pub have_kept : (v n have : ℕ) {l l' : List ℕ} → v < 16 → n ≤ 9 → Grown l l' → tail l' ≡ tail l → Have lane v l n have → Have lane v l' n have
+  -- the line's mask says who has the value
+  pub having_mask : (l : List ℕ) (v : ℕ) → HavingAsk lane v l → Have lane v l lane.len (line_mask l lane.number v)
   unfolding Have
-  have_kept v n have {l} {l'} h k g e f q b =
-      lane_cand l' q v (omega arith) ∙ grown_same g e (cell_at lane.number q) v h ∙ sym (lane_cand l q v (omega arith)) ∙ f q b
+  having_mask l v a q h =
+      lane_cand l q v (omega (arith, a.few)) ∙ sym (a.sized.masks.bits lane.number q v lane.within (omega (arith, a.few)) a.value)
 
 -- ---- a known arrangement
 

@@ -3,7 +3,6 @@ pub mod AliveLaws
 mod ArcLaws
 mod DeathLaws
 mod DigitLaws
-mod HaveLaws
 pub mod KillLaws
 pub mod LineLaws
 mod PrunedLaws

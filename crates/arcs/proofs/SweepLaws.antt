@@ -19,7 +19,8 @@ use Rattle.words.specs.Word.{Known, word_of, part}
 use Rattle.arcs.specs.Arc.{lives, live, support, Tallied, Alive, DeadArrangement, Listed, Fewer, Older, Held, Holding}
 use Rattle.table.specs.Lines.{cell_at, black_at, LineOf}
 use Rattle.arcs.proofs.LineLaws.{dead_kept, sum_each}
-use Rattle.arcs.proofs.AliveLaws.{cell_once, alive_kept, alive_next, tallied_same, within_refl, within_trans, holding_drop}
+use Rattle.lane.proofs.LaneLaws.{cell_once}
+use Rattle.arcs.proofs.AliveLaws.{alive_kept, alive_next, tallied_same, within_refl, within_trans, holding_drop}
 use Rattle.arrangements.specs.declared.ArrangedLane.{ArrangedLane}
 use Rattle.arcs.specs.Sweep.{RemoveAsk, Removed, Outlives, Aging, AllAlive, SweepAsk, Sweeping, Swept, LineDone, untouched, LineAsk}
 use Rattle.bits.specs.Sum.{sum_over}

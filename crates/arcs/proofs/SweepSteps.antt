@@ -5,11 +5,9 @@ use mathlib.Core.Logic.{⊎_elim}
 use mathlib.Core.Bool.{Bool, true, false}
 use mathlib.Core.List.{List}
 use native.Mathlib.Omega.{arith}
-use lib.ListN.{length, get_or}
+use lib.ListN.{get_or}
 use Rattle.bits.specs.Sum.{same}
 use Rattle.bits.proofs.SumLaws.{same_yes, same_no}
-use Rattle.queue_state.specs.Layout.{slab_size}
-use Rattle.queue_state.specs.Slab.{tail}
 use Rattle.queue_state.proofs.StruckLaws.{grown_gone}
 use Rattle.lane.specs.declared.Lane.{Lane}
 use Rattle.lane.proofs.LaneLaws.{lane_in}
@@ -19,11 +17,11 @@ use Rattle.table.specs.Value.{HalfOf}
 use Rattle.table.specs.Lines.{cell_at, black_at}
 use Rattle.arcs.proofs.KillLaws.{black_low}
 use Rattle.arcs.proofs.TestLaws.{shift_part}
-use Rattle.arcs.specs.Have.{test_of, Have, Tested}
-use Rattle.arcs.proofs.DeathLaws.{have_kept, black_dead, tested_kept, tested_dead}
+use Rattle.arcs.specs.Have.{test_of, Have, HavingAsk, Tested}
+use Rattle.arcs.proofs.DeathLaws.{black_dead, tested_kept, tested_dead}
 use Rattle.arrangements.specs.declared.ArrangedLane.{ArrangedLane}
 use Rattle.arcs.specs.Sweep.{Removed, untouched, SweepAsk, Sweeping}
-use Rattle.arcs.proofs.SweepLaws.{sweep_line, sweep_place, sweep_bounds, sweep_known, sweep_keep, sweep_drop}
+use Rattle.arcs.proofs.SweepLaws.{sweep_line, sweep_place, sweep_known, sweep_keep, sweep_drop, sweep_ready}
 
 module _ (arranged : ArrangedLane) {p v : ℕ} {l₀ : List ℕ} (a : SweepAsk arranged.lane p v l₀) where
   abbrev lane : Lane
@@ -41,8 +39,8 @@ module _ (arranged : ArrangedLane) {p v : ℕ} {l₀ : List ℕ} (a : SweepAsk a
   pub sweep_small : lane.start + p * lane.stride < 81
   sweep_small = lane_in lane p (sweep_place arranged a)
 
-  pub sweep_first : (length l₀ ≡ slab_size) × (v < 16)
-  sweep_first = (a.ready.sized.size, a.narrow)
+  pub sweep_having : {l : List ℕ} {i len : ℕ} → Sweeping n ℓ p v l₀ l i len → HavingAsk lane v l
+  sweep_having s = let z = sweep_ready arranged a s in record { sized = z.sized; value = a.narrow; few = z.size.high }
 
   module _ {l : List ℕ} {i len : ℕ} (s : Sweeping n ℓ p v l₀ l i len) (b : i < len) where
     -- a black is struck: x is its place in the word
@@ -87,11 +85,3 @@ module _ (arranged : ArrangedLane) {p v : ℕ} {l₀ : List ℕ} (a : SweepAsk a
           (tested_dead n ℓ p v (live l ℓ i) l a.ready.size (sweep_known arranged a s b) a.place h (sweep_line arranged a) w have (get_or l cell 0) o e
           at_cell tested lane refl k q)
           r
-
-      pub digit_have : {l' : List ℕ} {m t : ℕ} → t ≡ tail l → Have lane v l n have → Removed n ℓ i m l l' →
-          (length l' ≡ slab_size) × (v < 16) × (tail l' ≡ t → Have lane v l' n have)
-      digit_have u k r = (
-        r.within.grown.size ∙ (sweep_bounds arranged a s).1,
-        a.narrow,
-        λ q. have_kept lane v n have a.narrow a.ready.size.high r.within.grown (q ∙ u) k,
-      )

@@ -3,11 +3,11 @@
 
 ghost use Rattle.std.specs.Prelude.{◌≡◌, ◌+◌, ◌*◌, ◌≤◌, ◌<◌, length};
 ghost use Rattle.queue_state.specs.Layout.{per_line, slab_size};
-ghost use Rattle.queue_state.specs.Slab.{tail};
+ghost use Rattle.queue_state.specs.Slab.{Sized, Struck, One};
 ghost use Rattle.words.specs.Word.{after, word_of, Known};
 ghost use Rattle.arcs.specs.Kill.{parts, inners, InnerAsk, KillAsk};
 ghost use Rattle.arcs.specs.Arc.{live, ArcAsk, ArcDone};
-ghost use Rattle.arcs.specs.Have.{Have, Tested, test_of};
+ghost use Rattle.arcs.specs.Have.{Have, HavingAsk, Tested, test_of};
 ghost use Rattle.arcs.specs.Sweep.{RemoveAsk, Removed, SweepAsk, Swept, LineAsk, LineDone};
 ghost use Rattle.arcs.specs.Sunk.{Sunk, single, masked, DropAsk, DigitsAsk};
 
@@ -16,13 +16,22 @@ use lane::Lane;
 use queue_state::Slab;
 use value::{Bits, Candidate, Value};
 
+// A candidate without support is struck. Never inline, else what a strike needs is worked out for each place of an arrangement, though few lose their support.
+#[inline(never)]
+fn strike_unsupported(st: &mut [u16], cell: usize, v: usize)
+    requires { Sized st.old × (cell < 81) × (v < 16) }
+    ensures { Struck st.old st.new (One cell v) }
+{
+    queue_state::clear_value(st, cell, v);
+}
+
 // A support falls; without support the candidate is struck.
 fn drop_support(st: &mut [u16], lane: Lane, p: usize, v: usize)
     requires { DropAsk lane p v st.old }
     ensures { Sunk (single (lane.number * 9 + p) v) st.old st.new }
 {
     if queue_state::lower(st, Slab::SUPPORT + (lane.number * 9 + p) * 16 + v) == 0 {
-        queue_state::clear_value(st, lane.cell(p), v);
+        strike_unsupported(st, lane.cell(p), v);
     }
 }
 
@@ -107,40 +116,23 @@ fn digit_test(v: usize, p: usize) -> u32
 }
 
 // An arrangement outlives the strike of a digit.
-fn keeps(w: u32, test: u32, have: u32, cands: u16) -> bool
+fn keeps(w: u32, test: u32, have: u16, cands: u16) -> bool
     ensures { Tested w test have cands result }
 {
-    w & test != test || u32::from(words::inner_of(w)) & have != 0 && cands & words::set_of(w) != 0
+    w & test != test || words::inner_of(w) & have != 0 && cands & words::set_of(w) != 0
 }
 
-// The places of a line that have the value v. All nine, however long it is: a fixed count costs half, and behind its end no cell has a candidate. The line
-// comes with its words, whose type says that it has nine places at most.
-fn having(st: &[u16], arranged: ArrangedLane, v: usize) -> u32
-    requires { (length st.now ≡ slab_size) × (v < 16) }
-    ensures { Have arranged.entry.lane v st.now arranged.entry.lane.len result }
+// The places of a line that have the value v, as a mask.
+fn having(st: &[u16], lane: Lane, v: usize) -> u16
+    requires { HavingAsk lane v st.now }
+    ensures { Have lane v st.now lane.len result }
 {
-    let mut have = 0u32;
-    for q in 0..9 {
-        have |= u32::from((st[arranged.lane.cell(q)] >> v) % 2) << q;
-    }
-    have
-}
-
-// The same, if strikes were made since the queue had t of them; else those that had it then, since what is struck stands in the queue.
-fn having_since(st: &[u16], arranged: ArrangedLane, v: usize, t: u16, have: u32) -> u32
-    requires { (length st.now ≡ slab_size) × (v < 16) × (tail st.now ≡ t → Have arranged.lane v st.now arranged.lane.len have) }
-    ensures { Have arranged.entry.lane v st.now arranged.entry.lane.len result }
-{
-    if st[Slab::TAIL] == t {
-        have
-    } else {
-        having(st, arranged, v)
-    }
+    st[Slab::LINE_MASKS + lane.number * 16 + v]
 }
 
 // The sweep for a digit that is struck at place p: the dead arrangements of the line leave. Gives how many are left. The line, the place and the value go one
 // by one here and below: as one value they take 0.4 % more instructions (tried), and nothing is to get slower.
-// Not one with sweep_black: this test goes on with `have` as removals strike, and a trait or a closure for the two tests is longer than the loop twice.
+// Not one with sweep_black: a trait or a closure for the two tests is longer than the loop twice.
 fn sweep_digit(st: &mut [u16], arranged: ArrangedLane, p: usize, v: usize) -> usize
     requires { SweepAsk arranged.lane p v st.old × (v < 8) }
     ensures { Swept arranged.entry.lane.len arranged.entry.lane.number p v st.old st.new result }
@@ -148,19 +140,16 @@ fn sweep_digit(st: &mut [u16], arranged: ArrangedLane, p: usize, v: usize) -> us
     let lane = arranged.lane;
     let cell = lane.cell(p);
     let test = digit_test(v, p);
-    let mut have = having(st, arranged, v);
     let mut i = 0;
     let mut len = usize::from(st[Slab::LENGTHS + lane.number]);
     // A while here and in sweep_black: where one leaves, len falls and i stays.
     while i < len {
         let w = word_at(st, arranged, i);
-        if keeps(w, test, have, st[cell]) {
+        if keeps(w, test, having(st, lane, v), st[cell]) {
             i += 1;
         } else {
-            let t = st[Slab::TAIL];
             len -= 1;
             remove(st, lane, i, len, w);
-            have = having_since(st, arranged, v, t, have);
         }
     }
     len

@@ -82,6 +82,7 @@ pub fn search(
                 return found + 1;
             }
             Next::Branch(x) => {
+                // Not cleared in the program: the compiler sees that the copy writes it whole.
                 let mut other = [0u16; Slab::SIZE];
                 copy(st, &mut other);
                 set_cell(&mut other, n, x);

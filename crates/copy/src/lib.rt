@@ -1,5 +1,5 @@
 // A copy of the state, made at each branch of the search (in the Rust: the clone of QueueSolverState).
-// Called once for each branch of the search: the whole state, 11 KB, some 300 ns. A crate of its own over the library's function, so that a wrong copy is
+// Called once for each branch of the search: the whole state, 12 KB, some 300 ns. A crate of its own over the library's function, so that a wrong copy is
 // refused here in a second and not in the search.
 #![tactic(auto)]
 

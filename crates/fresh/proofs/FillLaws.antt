@@ -11,8 +11,8 @@ use Rattle.std.proofs.lemmas.List.{places}
 use borrow.Author.Tests.{lt-ltb, le-ltb}
 use Rattle.table.specs.Table.{every_value}
 use Rattle.value.specs.Mask.{mask_of}
-use Rattle.queue_state.specs.Layout.{row_half_at, row_blacks_at, lengths_at, slab_size}
-use Rattle.fresh.specs.Fresh.{Blank, cell_in, RowsFull, Fresh}
+use Rattle.queue_state.specs.Layout.{line_mask_place, row_half_at, row_blacks_at, lengths_at, slab_size}
+use Rattle.fresh.specs.Fresh.{Blank, cell_in, RowsFull, MasksFull, Fresh}
 
 -- The places from .. to have the number k, and the others are as before.
 pub record Filled (l l' : List ℕ) (from to k : ℕ) : Type 0 where
@@ -83,14 +83,15 @@ module _ (n full : ℕ) where
           split : (x : ℕ) → (x / 9 ≡ m → ⊥) → (x < m * 9) ⊎ (m * 9 + n ≤ x)
           split x e = elim (dec_lt x (m * 9)) [ yes q ↦ inl q | no q ↦ inr (omega arith) ]
 
-pub fresh_done : {n : ℕ} {a b c : List ℕ} → RowsFull a n n (mask_of (every_value n)) → Filled a b row_half_at row_blacks_at n →
-    Filled b c row_blacks_at lengths_at 2 → Fresh n c
-fresh_done {n} {a} {b} {c} r f g =
+pub fresh_done : {n : ℕ} {a b c d : List ℕ} → RowsFull a n n (mask_of (every_value n)) → MasksFull a b n n → Filled b c row_half_at row_blacks_at n →
+    Filled c d row_blacks_at lengths_at 2 → Fresh n d
+fresh_done r m f g =
     record {
-      size = g.size ∙ f.size ∙ r.size;
-      cells = λ x h. g.outside x (inl (omega arith)) ∙ f.outside x (inl (omega arith)) ∙ r.cells x h;
-      queue = λ p h k. g.outside p (inl (omega arith)) ∙ f.outside p (inl (omega arith)) ∙ r.rest p h;
+      size = g.size ∙ f.size ∙ m.size ∙ r.size;
+      cells = λ x h. g.outside x (inl (omega arith)) ∙ f.outside x (inl (omega arith)) ∙ m.rest x (inl (omega arith)) ∙ r.cells x h;
+      queue = λ p h k. g.outside p (inl (omega arith)) ∙ f.outside p (inl (omega arith)) ∙ m.rest p (inl (omega arith)) ∙ r.rest p h;
+      masks = λ ℓ v h k. g.outside (line_mask_place ℓ v) (inl (omega arith)) ∙ f.outside (line_mask_place ℓ v) (inl (omega arith)) ∙ m.masks ℓ v h k;
       counters = λ p h k. g.outside p (inl (omega arith)) ∙ f.inside p h k;
       blacks = λ p h k. g.inside p h k;
-      arcs = λ p h. g.outside p (inr h) ∙ f.outside p (inr (omega arith)) ∙ r.rest p (omega arith);
+      arcs = λ p h. g.outside p (inr h) ∙ f.outside p (inr (omega arith)) ∙ m.rest p (inr (omega arith)) ∙ r.rest p (omega arith);
     }

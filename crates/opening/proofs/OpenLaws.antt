@@ -15,7 +15,7 @@ use Rattle.bits.proofs.SumLaws.{sum_same}
 use Rattle.rules.specs.Size.{Size}
 use Rattle.queue_state.specs.Layout.{entry_place, tail_at, counters_at, lengths_at, support_place, slab_size}
 use Rattle.queue_state.specs.Slab.{cand, tail, entry, waits, lag, candidates_left, Sized, Grown, Struck}
-use Rattle.queue_state.proofs.SlabLaws.{cand_same}
+use Rattle.queue_state.proofs.SlabLaws.{cand_same, mirrored_same}
 use Rattle.queue_state.proofs.StruckLaws.{grown_sized, grown_trans}
 use Rattle.queue_state.specs.Ready.{Valid}
 use Rattle.table.specs.Value.{ValueOf, HalfOf}
@@ -63,6 +63,7 @@ module _ (l l' : List ℕ) (s : Sized l) (long : length l' ≡ length l) (e : (q
         old = entry_kept;
         lags = λ h x v _ _. omega (arith, cand_kept x v, waits_kept h (x * 16 + v));
         sub = λ x v _. omega (arith, cand_kept x v);
+        masks = mirrored_same l l' (λ q h. e q (omega arith)) (λ q _ h. e q h);
       }
 
 -- ---- lines and cells

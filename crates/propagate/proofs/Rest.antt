@@ -19,8 +19,8 @@ use Rattle.soundness.specs.Greatest.{KeepsStable}
 use Rattle.propagate.proofs.FlowLaws.{grids_same}
 use Rattle.soundness.proofs.StableLaws.{keeps_trans, keeps_table}
 use Rattle.queue_state.specs.Layout.{tail_at, counters_at, slab_size}
-use Rattle.queue_state.specs.Slab.{cand, table_in, tail, lag, candidates_left}
-use Rattle.queue_state.proofs.SlabLaws.{cand_lt, cand_same}
+use Rattle.queue_state.specs.Slab.{cand, table_in, tail, lag, candidates_left, Mirrored}
+use Rattle.queue_state.proofs.SlabLaws.{cand_lt, cand_same, mirrored_same}
 use Rattle.queue_state.proofs.ReadyLaws.{lag_rest}
 use Rattle.counters.specs.Counters.{Fam, Ruled, AllSet, NoBlacks, Halves, LinePlaces, Blacks, halves, line_places, cell_blacks}
 use Rattle.counters.proofs.Closure.{AtRest, lone, single, crossed, crossed_back, lone_set, blacks}
@@ -98,12 +98,15 @@ module _ (l l' : List ℕ) (size : length l ≡ slab_size) (is : l' ≡ set l ta
   unfolding candidates_left
   reset_left = sum_same 0 1296 (λ i. cand l' (i / 16) (i % 16)) (λ i. cand l (i / 16) (i % 16)) (λ i _ _. reset_cand (i / 16) (i % 16))
 
+  reset_masks : Mirrored l → Mirrored l'
+  reset_masks = mirrored_same l l' (λ q h. reset_rest q (λ e. omega arith)) (λ q h _. reset_rest q (λ e. omega arith))
+
   reset_lagging : {n : ℕ} → Lagging n l (tail l) → Lagging n l' 0
   unfolding Occupied lag
   reset_lagging g =
       record {
         ready = record {
-          sized = record { size = reset_size ∙ size; room = omega (arith, reset_tail, reset_left, g.ready.sized.room) };
+          sized = record { size = reset_size ∙ size; room = omega (arith, reset_tail, reset_left, g.ready.sized.room); masks = reset_masks g.ready.sized.masks };
           size = g.ready.size;
           proper = λ x v h k. g.ready.proper x v h (omega (arith, reset_lag x v, lag_rest l x v));
         };

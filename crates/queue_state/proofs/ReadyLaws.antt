@@ -1,6 +1,6 @@
 -- The state of a size, the strike that is handled next, and what stays while strikes are made. Assumes nothing.
 use Prim.Native.Nat.{ℕ, suc, ◌+◌, ◌-◌, ◌*◌, ◌≤◌, ◌<◌}
-use mathlib.Core.Path.{◌≡◌, sym, ap, ◌∙◌}
+use mathlib.Core.Path.{◌≡◌, ap, ◌∙◌}
 use mathlib.Core.Logic.{⊎_elim}
 use mathlib.Core.List.{List}
 use native.Mathlib.Omega.{arith}
@@ -53,7 +53,3 @@ lag_pop {l} {h} {x} {v} n y w =
 pub lag_rest : (l : List ℕ) (x v : ℕ) → lag l (tail l) x v ≡ cand l x v
 unfolding lag waits sum_over
 lag_rest l x v = let z : tail l - tail l ≡ 0 = omega arith in rw z (omega arith)
-
--- and where the queue has not become longer, the table is as it was
-pub grown_same : {l l' : List ℕ} → Grown l l' → tail l' ≡ tail l → (x v : ℕ) → v < 16 → cand l' x v ≡ cand l x v
-grown_same {l} {l'} g e x v h = sym (lag_rest l' x v) ∙ ap (λ t. lag l' t x v) e ∙ g.lags (tail l) x v (omega arith) h ∙ lag_rest l x v

@@ -12,11 +12,11 @@ use Rattle.bits.specs.Sum.{same}
 use Rattle.bits.proofs.SumLaws.{sum_same}
 use Rattle.queue_state.specs.Layout.{entry_place, tail_at, counters_at}
 use Rattle.queue_state.specs.Slab.{cand, tail, entry, waits, lag, candidates_left, Sized, Grown, Struck}
-use Rattle.queue_state.proofs.SlabLaws.{cand_lt, cand_same}
+use Rattle.queue_state.proofs.SlabLaws.{cand_lt, cand_same, mirrored_same}
 
 pub grown_refl : (l : List ℕ) → Grown l l
 grown_refl l =
-    record { size = refl; balance = refl; grows = omega arith; old = λ i h. refl; lags = λ h x v p q. refl; sub = λ x v h. omega arith }
+    record { size = refl; balance = refl; grows = omega arith; old = λ i h. refl; lags = λ h x v p q. refl; sub = λ x v h. omega arith; masks = λ m. m }
 
 pub grown_trans : {a b c : List ℕ} → Grown a b → Grown b c → Grown a c
 grown_trans p q =
@@ -27,11 +27,12 @@ grown_trans p q =
       old = λ i h. q.old i (omega (arith, p.grows)) ∙ p.old i h;
       lags = λ h x v k n. q.lags h x v (omega (arith, p.grows)) n ∙ p.lags h x v k n;
       sub = λ x v h. le_trans (q.sub x v h) (p.sub x v h);
+      masks = λ m. q.masks (p.masks m);
     }
 
 -- the state stays as large, with room
 pub grown_sized : {l l' : List ℕ} → Grown l l' → Sized l → Sized l'
-grown_sized g s = record { size = g.size ∙ s.size; room = omega (arith, g.balance, s.room) }
+grown_sized g s = record { size = g.size ∙ s.size; room = omega (arith, g.balance, s.room); masks = g.masks s.masks }
 
 -- what is gone stays gone
 pub grown_gone : {l l' : List ℕ} → Grown l l' → (x v : ℕ) → v < 16 → cand l x v ≡ 0 → cand l' x v ≡ 0
@@ -97,4 +98,5 @@ module _ (l : List ℕ) (p k : ℕ) (s : Sized l) (h : counters_at ≤ p) where
         old = set_entry;
         lags = λ j x v n m. omega (arith, set_cand x v, set_waits j (x * 16 + v));
         sub = λ x v n. omega (arith, set_cand x v);
+        masks = mirrored_same l (set l p k) (λ i n. other i (omega arith)) (λ i _ n. other i n);
       }

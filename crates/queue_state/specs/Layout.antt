@@ -17,11 +17,20 @@ entry_place i = queue_at + i
 abbrev pub tail_at : ℕ
 tail_at = queue_at + queue_room
 
+-- ---- line masks: strikes change them with the candidates
+
+abbrev pub line_masks_at : ℕ
+line_masks_at = tail_at + 1
+
+-- Which places of line ℓ have the value v, as a mask.
+abbrev pub line_mask_place : ℕ → ℕ → ℕ
+line_mask_place ℓ v = line_masks_at + ℓ * 16 + v
+
 -- ---- counters: strikes move nothing from here on
 
 -- The counters begin with how many candidates the row half of each cell has.
 abbrev pub counters_at : ℕ
-counters_at = tail_at + 1
+counters_at = line_masks_at + 18 * 16
 
 -- How many candidates the row half and the column half of the cell at place x have.
 abbrev pub row_half_at : ℕ

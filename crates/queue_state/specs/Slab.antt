@@ -1,9 +1,10 @@
 -- The state as a list of numbers: the candidates, the queue, and what strikes do to them. Assumes nothing.
-use Rattle.std.specs.Prelude.{ℕ, ◌+◌, ◌-◌, ◌*◌, ◌/◌, ◌%◌, ◌≤◌, ◌<◌, ◌≡◌, cond, List, eqb, ltb, length, get_or}
+use Rattle.std.specs.Prelude.{ℕ, ◌+◌, ◌-◌, ◌*◌, ◌/◌, ◌%◌, ◌^◌, ◌≤◌, ◌<◌, ◌≡◌, cond, List, eqb, ltb, length, get_or, set}
 use Rattle.bits.specs.Bit.{bit}
 use Rattle.bits.specs.Sum.{sum_over, same}
+use Rattle.table.specs.Lines.{cell_at}
 use Rattle.table.specs.Table.{Table}
-use Rattle.queue_state.specs.Layout.{queue_room, entry_place, tail_at, counters_at, slab_size}
+use Rattle.queue_state.specs.Layout.{queue_room, entry_place, tail_at, line_mask_place, counters_at, slab_size}
 
 -- 1 where the cell at place x has the candidate v, else 0.
 unfoldable pub cand : List ℕ → ℕ → ℕ → ℕ
@@ -28,16 +29,25 @@ waits l h e = sum_over h (tail l - h) (λ (i : ℕ). same e (entry l i))
 unfoldable pub lag : List ℕ → ℕ → ℕ → ℕ → ℕ
 lag l h x v = cand l x v + waits l h (x * 16 + v)
 
+-- Which places of line ℓ have the value v, as a mask.
+abbrev pub line_mask : List ℕ → ℕ → ℕ → ℕ
+line_mask l ℓ v = get_or l (line_mask_place ℓ v) 0
+
+-- The line masks say what the table says: a place of a line has a value where its bit is set.
+pub record Mirrored (l : List ℕ) : Type 0 where
+  pub bits : (ℓ p v : ℕ) → ℓ < 18 → p < 9 → v < 16 → bit p (line_mask l ℓ v) ≡ cand l (cell_at ℓ p) v
+
 -- How many candidates the cells have.
 unfoldable pub candidates_left : List ℕ → ℕ
 candidates_left l = sum_over 0 1296 (λ (k : ℕ). cand l (k / 16) (k % 16))
 
--- The state has its size, and room in the queue for all candidates that are left.
+-- The state has its size, room in the queue for all candidates that are left, and line masks that are those of the table.
 pub record Sized (l : List ℕ) : Type 0 where
   pub size : length l ≡ slab_size
   pub room : tail l + candidates_left l ≤ queue_room
+  pub masks : Mirrored l
 
--- What every step keeps: the table only shrinks, and what it loses waits in the queue.
+-- What every step keeps: the table only shrinks, what it loses waits in the queue, and the line masks follow it.
 pub record Grown (l l' : List ℕ) : Type 0 where
   pub size : length l' ≡ length l
   pub balance : tail l' + candidates_left l' ≡ tail l + candidates_left l
@@ -45,6 +55,7 @@ pub record Grown (l l' : List ℕ) : Type 0 where
   pub old : (i : ℕ) → i < tail l → entry l' i ≡ entry l i
   pub lags : (h x v : ℕ) → h ≤ tail l → v < 16 → lag l' h x v ≡ lag l h x v
   pub sub : (x v : ℕ) → v < 16 → cand l' x v ≤ cand l x v
+  pub masks : Mirrored l → Mirrored l'
 
 -- The candidates in Hit are struck, and nothing else moves.
 pub record Struck (l l' : List ℕ) (Hit : ℕ → ℕ → Type 0) : Type 0 where
@@ -67,6 +78,18 @@ pub record StrikeAsk (l : List ℕ) (cell v : ℕ) : Type 0 where
   pub place : cell < 81
   pub value : v < 16
   pub has : bit v (get_or l cell 0) ≡ 1
+
+-- The state without place p in line ℓ's mask of the value v.
+abbrev pub unmasked : List ℕ → ℕ → ℕ → ℕ → List ℕ
+unmasked l ℓ p v = set l (line_mask_place ℓ v) (line_mask l ℓ v - 2 ^ p)
+
+-- Line ℓ's mask of the value v has the bit of place p.
+pub record UnmaskAsk (ℓ p v : ℕ) (l : List ℕ) : Type 0 where
+  pub size : length l ≡ slab_size
+  pub line : ℓ < 18
+  pub value : v < 16
+  pub place : p < 9
+  pub has : bit p (line_mask l ℓ v) ≡ 1
 
 -- A counter that is not 0.
 pub record CounterAsk (l : List ℕ) (p : ℕ) : Type 0 where

@@ -6,21 +6,24 @@
 #![tactic(auto)]
 
 ghost use Rattle.std.specs.Prelude.{◌≡◌, ◌-◌, ◌<◌, get_or, set};
-ghost use Rattle.queue_state.specs.Slab.{Sized, Struck, One, Masked, StrikeAsk, CounterAsk};
+ghost use Rattle.queue_state.specs.Slab.{Sized, Struck, One, Masked, unmasked, UnmaskAsk, StrikeAsk, CounterAsk};
 
 use value::Bits;
 
 pub struct Slab;
 
 impl Slab {
-    // The candidates of the 81 cells stand first, then the queue of strikes, then how many it has.
+    // The candidates of the 81 cells stand first, then the queue of strikes, then how many it has. The line masks say the candidates again, line by line, so
+    // that propagation goes over no line to find who has a value.
     pub const QUEUE: usize = 81;
 
     pub const QUEUE_ROOM: usize = 81 * 11;
 
     pub const TAIL: usize = Slab::QUEUE + Slab::QUEUE_ROOM;
+    // Which places of a line have a value, as a mask: line * 16 + value.
+    pub const LINE_MASKS: usize = Slab::TAIL + 1;
     // How many candidates a cell's row half and its column half have.
-    pub const ROW_HALF: usize = Slab::TAIL + 1;
+    pub const ROW_HALF: usize = Slab::LINE_MASKS + 18 * 16;
 
     pub const COL_HALF: usize = Slab::ROW_HALF + 81;
     // How many places a value has in a line: line * 16 + value.
@@ -41,7 +44,16 @@ impl Slab {
     pub const SIZE: usize = Slab::SUPPORT + 18 * 9 * 16;
 }
 
-// Strikes a candidate that the cell has: it leaves the table and enters the queue.
+// A place leaves the line's mask of a value.
+fn unmask(st: &mut [u16], line: usize, p: usize, v: usize)
+    requires { UnmaskAsk line p v st.old }
+    ensures { st.new ≡ unmasked st.old line p v }
+{
+    let at = Slab::LINE_MASKS + line * 16 + v;
+    st[at] = st[at] - (1u16 << p);
+}
+
+// Strikes a candidate that the cell has: it leaves the table and the masks of its lines, and enters the queue.
 fn strike(st: &mut [u16], cell: usize, v: usize)
     requires { StrikeAsk st.old cell v }
     ensures { Struck st.old st.new (One cell v) }
@@ -51,6 +63,8 @@ fn strike(st: &mut [u16], cell: usize, v: usize)
     // By `as`, as wherever the state gets a number: proved to fit, and the library has no From into fewer bits.
     st[Slab::QUEUE + t] = (cell * 16 + v) as u16;
     st[Slab::TAIL] = (t + 1) as u16;
+    unmask(st, cell / 9, cell % 9, v);
+    unmask(st, 9 + cell % 9, cell / 9, v);
 }
 
 // Strikes a candidate if the cell has it.

@@ -1,5 +1,5 @@
 -- What the proofs of several functions use.
 pub mod MaskBits
-mod RunLaws
+mod PlaceLaws
 pub mod SetLaws
 pub mod SettingLaws

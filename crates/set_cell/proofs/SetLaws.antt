@@ -2,10 +2,10 @@
 use Prim.Native.Nat.{ℕ, ◌+◌, ◌*◌, ◌/◌, ◌%◌, ◌≤◌, ◌<◌}
 use mathlib.Core.Path.{◌≡◌, refl, sym, ◌∙◌}
 use mathlib.Core.Bool.{Bool, true, false, not, ◌&&◌, true≢false, and-true, and-false}
-use mathlib.Core.Logic.{◌≢◌, ◌⊎◌, inl, inr, ⊎_elim}
+use mathlib.Core.Logic.{◌⊎◌, inl, inr}
 use mathlib.Core.List.{List}
 use native.Mathlib.Omega.{arith}
-use native.Mathlib.Decide.{ℕ_discrete, dec_lt}
+use native.Mathlib.Decide.{ℕ_discrete}
 use borrow.Author.Tests.{eqb-true, eq-eqb, ne_eqb}
 use Rattle.bits.specs.Bit.{bit}
 use Rattle.table.specs.Steps.{strikes, taken}
@@ -18,8 +18,8 @@ use Rattle.queue_state.proofs.SlabLaws.{cand_lt}
 use Rattle.queue_state.proofs.StruckLaws.{struck_none, struck_both, struck_as}
 use Rattle.queue_state.proofs.ReadyLaws.{ready_grown, ready_valid}
 use Rattle.queue_state.specs.Ready.{Valid}
-use Rattle.set_cell.proofs.RunLaws.{row_run, run_row, column_run, run_column}
-use Rattle.set_cell.specs.Run.{Sides, SidesAsk}
+use Rattle.set_cell.proofs.PlaceLaws.{row_at, at_row, column_at, at_column}
+use Rattle.set_cell.specs.Places.{PlaceAsk}
 use Rattle.set_cell.specs.Setting.{SetHit, SetAsk, Others, Around, RestOfHalf, Hits, along_row, along_column, in_cell, to_left, to_right, above, below}
 use Rattle.set_cell.proofs.SettingLaws.{hits_strikes, strikes_hits, row_value, column_value}
 use Rattle.line_laws.proofs.CellValues.{value_range}
@@ -38,11 +38,11 @@ module _ {n r c v : ℕ} {l : List ℕ} (a : SetAsk n l r c v) where
   pub ask_narrow : v < 16
   ask_narrow = omega (arith, ask_value)
 
-  pub ask_row : {lane : Lane} {u w : ℕ} → RowLane n r lane → u < 16 → w < 16 → SidesAsk l lane c u w
-  ask_row e h k = record { sized = a.ready.sized; before = h; behind = k; place = rw e.4 a.column; few = rw e.4 ask_high }
+  pub ask_row : {v : ℕ} → v < 16 → PlaceAsk l c v
+  ask_row h = record { sized = a.ready.sized; place = omega (arith, a.column, ask_high); value = h }
 
-  pub ask_column : {lane : Lane} {u w : ℕ} → ColumnLane n c lane → u < 16 → w < 16 → SidesAsk l lane r u w
-  ask_column e h k = record { sized = a.ready.sized; before = h; behind = k; place = rw e.4 a.row; few = rw e.4 ask_high }
+  pub ask_column : {v : ℕ} → v < 16 → PlaceAsk l r v
+  ask_column h = record { sized = a.ready.sized; place = omega (arith, a.row, ask_high); value = h }
 
 -- ---- the parts together
 module _ {n r c v m : ℕ} {l : List ℕ} (row column : Lane) (a : SetAsk n l r c v) (g₁ : RowLane n r row) (g₂ : ColumnLane n c column) (f : RestOfHalf v m) where
@@ -58,47 +58,39 @@ module _ {n r c v m : ℕ} {l : List ℕ} (row column : Lane) (a : SetAsk n l r 
   column_has : lane_value column.first v ≡ in_column v
   column_has = rw g₂.3 (column_value v (ask_value a).1)
 
-  part_row : (x w : ℕ) → lane_value row.first v ≡ true → Sides row c v v x w → Hits r c v (x / 9) (x % 9) w
-  part_row x w t (inl q) = let p = row_run g₁ q (omega (arith, high, a.column)) in along_row p.0 (omega (arith, p.2)) (sym row_has ∙ t) q.value
-  part_row x w t (inr q) = let p = row_run g₁ q (rw g₁.4 high) in along_row p.0 (omega (arith, p.1)) (sym row_has ∙ t) q.value
+  part_row : (x w : ℕ) → Others row c v x w → Hits r c v (x / 9) (x % 9) w
+  part_row x w q = let p = row_at g₁ q.1 in along_row p.0 p.1 (sym row_has ∙ q.0) q.1.value
 
-  part_column : (x w : ℕ) → lane_value column.first v ≡ true → Sides column r v v x w → Hits r c v (x / 9) (x % 9) w
-  part_column x w t (inl q) = let p = column_run g₂ q (omega (arith, high, a.column)) in along_column p.0 (omega (arith, p.2)) (sym column_has ∙ t) q.value
-  part_column x w t (inr q) = let p = column_run g₂ q (omega (arith, high, a.column)) in along_column p.0 (omega (arith, p.1)) (sym column_has ∙ t) q.value
+  part_column : (x w : ℕ) → Others column r v x w → Hits r c v (x / 9) (x % 9) w
+  part_column x w q = let p = column_at g₂ q.1 (omega (arith, high, a.column)) in along_column p.0 p.1 (sym column_has ∙ q.0) q.1.value
 
   part_cell : (x w : ℕ) → w < 16 → x ≡ r * 9 + c → bit w m ≡ 1 → Hits r c v (x / 9) (x % 9) w
   part_cell x w h e b =
       let q = f.only w h b in in_cell (omega (arith, high, a.column)) (omega (arith, high, a.column)) q.0 q.1
 
   part_blacks : (x w : ℕ) → 8 ≤ v → Around row c x w ⊎ Around column r x w → Hits r c v (x / 9) (x % 9) w
-  part_blacks x w h (inl (inl q)) = let p = row_run g₁ q (omega (arith, high, a.column)) in to_left h p.0 p.2 (omega (arith, q.value, g₁.3))
-  part_blacks x w h (inl (inr q)) = let p = row_run g₁ q (rw g₁.4 high) in to_right h p.0 (omega (arith, p.1)) (omega (arith, q.value, g₁.3))
-  part_blacks x w h (inr (inl q)) = let p = column_run g₂ q (omega (arith, high, a.column)) in above h p.0 p.2 (omega (arith, q.value, g₂.3))
-  part_blacks x w h (inr (inr q)) = let p = column_run g₂ q (omega (arith, high, a.column)) in below h p.0 (omega (arith, p.1)) (omega (arith, q.value, g₂.3))
+  part_blacks x w h (inl (inl q)) = let p = row_at g₁ q in to_left h p.0 p.1 (omega (arith, q.value, g₁.3))
+  part_blacks x w h (inl (inr q)) = let p = row_at g₁ q in to_right h p.0 p.1 (omega (arith, q.value, g₁.3))
+  part_blacks x w h (inr (inl q)) = let p = column_at g₂ q (omega (arith, high, a.column)) in above h p.0 p.1 (omega (arith, q.value, g₂.3))
+  part_blacks x w h (inr (inr q)) = let p = column_at g₂ q (omega (arith, high, a.column)) in below h p.0 p.1 (omega (arith, q.value, g₂.3))
 
   of_parts : (x w : ℕ) → w < 16 → Parts x w → Hits r c v (x / 9) (x % 9) w
   unfolding Parts Masked
-  of_parts x w h (inl (inl (inl q))) = part_row x w q.0 q.1
-  of_parts x w h (inl (inl (inr q))) = part_column x w q.0 q.1
+  of_parts x w h (inl (inl (inl q))) = part_row x w q
+  of_parts x w h (inl (inl (inr q))) = part_column x w q
   of_parts x w h (inl (inr q)) = part_cell x w h q.0 q.1
   of_parts x w h (inr q) = part_blacks x w q.0 q.1
 
-  -- a place before or behind another
-  beside : {i j : ℕ} → i ≢ j → (i < j) ⊎ (j + 1 ≤ i)
-  beside {i} {j} d = elim (dec_lt i j) [ yes h ↦ inl h | no h ↦ inr (omega arith) ]
-
   to_parts : (x w : ℕ) → Valid n x w → Hits r c v (x / 9) (x % 9) w → Parts x w
   unfolding Parts Masked
-  to_parts x w k (along_row e d t g) =
-      inl (inl (inl (row_has ∙ t, ⊎_elim (λ h. inl (run_row g₁ e (omega arith) h g)) (λ h. inr (run_row g₁ e h (rw g₁.4 k.column) g)) (beside d))))
-  to_parts x w k (along_column e d t g) =
-      inl (inl (inr (column_has ∙ t, ⊎_elim (λ h. inl (run_column g₂ e (omega arith) h g)) (λ h. inr (run_column g₂ e h (rw g₂.4 k.row) g)) (beside d))))
+  to_parts x w k (along_row e d t g) = inl (inl (inl (row_has ∙ t, at_row g₁ e d g)))
+  to_parts x w k (along_column e d t g) = inl (inl (inr (column_has ∙ t, at_column g₂ e (omega (arith, k.row, high)) d g)))
   to_parts x w k (in_cell e d t g) =
       let b = value_range high k.value in inl (inr (omega arith, f.each w b.0 b.1 t g))
-  to_parts x w k (to_left h e d g) = inr (h, inl (inl (run_row g₁ e (omega arith) d (omega (arith, g, g₁.3)))))
-  to_parts x w k (to_right h e d g) = inr (h, inl (inr (run_row g₁ e (omega arith) (rw g₁.4 k.column) (omega (arith, g, g₁.3)))))
-  to_parts x w k (above h e d g) = inr (h, inr (inl (run_column g₂ e (omega arith) d (omega (arith, g, g₂.3)))))
-  to_parts x w k (below h e d g) = inr (h, inr (inr (run_column g₂ e (omega arith) (rw g₂.4 k.row) (omega (arith, g, g₂.3)))))
+  to_parts x w k (to_left h e d g) = inr (h, inl (inl (at_row g₁ e d (omega (arith, g, g₁.3)))))
+  to_parts x w k (to_right h e d g) = inr (h, inl (inr (at_row g₁ e d (omega (arith, g, g₁.3)))))
+  to_parts x w k (above h e d g) = inr (h, inr (inl (at_column g₂ e (omega (arith, k.row, high)) d (omega (arith, g, g₂.3)))))
+  to_parts x w k (below h e d g) = inr (h, inr (inr (at_column g₂ e (omega (arith, k.row, high)) d (omega (arith, g, g₂.3)))))
 
   struck_parts : {l' : List ℕ} → Struck l l' Parts → Struck l l' (SetHit r c v)
   struck_parts s =

@@ -1,2 +1,2 @@
-pub mod Run
+pub mod Places
 pub mod Setting

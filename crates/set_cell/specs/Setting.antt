@@ -1,5 +1,5 @@
 -- Setting a cell: which candidates are struck, and what is asked. Assumes nothing.
-use Rattle.std.specs.Prelude.{ℕ, ◌+◌, ◌/◌, ◌%◌, ◌≤◌, ◌<◌, ◌≡◌, true, ◌≢◌, List}
+use Rattle.std.specs.Prelude.{ℕ, ◌+◌, ◌/◌, ◌%◌, ◌≤◌, ◌<◌, ◌≡◌, true, ◌≢◌, ◌⊎◌, List}
 use Rattle.bits.specs.Bit.{bit}
 use Rattle.table.specs.Steps.{strikes}
 use Rattle.table.specs.Table.{in_column, in_row, same_half}
@@ -7,7 +7,7 @@ use Rattle.lane.specs.Lanes.{lane_value}
 use Rattle.lane.specs.declared.Lane.{Lane}
 use Rattle.queue_state.specs.Ready.{Ready}
 use Rattle.table.specs.Value.{ValueOf}
-use Rattle.set_cell.specs.Run.{Sides}
+use Rattle.set_cell.specs.Places.{At}
 
 -- Setting the cell of row r and column c to v strikes the candidate w of the cell at place x.
 abbrev pub SetHit : ℕ → ℕ → ℕ → ℕ → ℕ → Type 0
@@ -22,11 +22,11 @@ pub record SetAsk (n : ℕ) (l : List ℕ) (r c v : ℕ) : Type 0 where
 
 -- The strikes of its parts: a value of a line's half at the other places of the line, and, of a black, blacks that are out of order.
 abbrev pub Others : Lane → ℕ → ℕ → ℕ → ℕ → Type 0
-Others lane i v x w = (lane_value lane.first v ≡ true) × Sides lane i v v x w
+Others lane i v x w = (lane_value lane.first v ≡ true) × At lane (λ p. p ≢ i) v x w
 
 -- What a black leaves out of a line: second blacks before it and first blacks behind it.
 abbrev pub Around : Lane → ℕ → ℕ → ℕ → Type 0
-Around lane i x w = Sides lane i (lane.first + 1) lane.first x w
+Around lane i x w = At lane (λ p. p < i) (lane.first + 1) x w ⊎ At lane (λ p. i < p) lane.first x w
 
 -- A mask of the other values of the half of v.
 pub record RestOfHalf (v m : ℕ) : Type 0 where

@@ -3,48 +3,41 @@
 
 ghost use Rattle.std.specs.Prelude.{◌+◌, ◌≤◌, ◌<◌};
 ghost use Rattle.queue_state.specs.Slab.{Struck};
-ghost use Rattle.set_cell.specs.Run.{Run, Sides, RunAsk, SidesAsk};
+ghost use Rattle.set_cell.specs.Places.{At, InMask, PlacesAsk, PlaceAsk};
 ghost use Rattle.set_cell.specs.Setting.{SetHit, SetAsk, Others, Around, RestOfHalf};
 
 use lane::Lane;
-use queue_state::{clear_mask, clear_value};
-use value::{Candidate, Value};
+use queue_state::{Slab, clear_mask, clear_value};
+use value::{Bits, Candidate, Value};
 
-// Strikes v at the places from a to b - 1 of a line.
-fn clear_run(st: &mut [u16], lane: Lane, a: usize, b: usize, v: usize)
-    requires { RunAsk st.old lane a b v }
-    ensures { Struck st.old st.new (Run lane a b v) }
+// Strikes v at the places of a mask, of which 511 has all nine: the line's own mask says who has it.
+fn clear_places(st: &mut [u16], lane: Lane, places: u16, v: usize)
+    requires { PlacesAsk st.old places v }
+    ensures { Struck st.old st.new (At lane (InMask places) v) }
 {
-    for p in a..b {
+    let rest = st[Slab::LINE_MASKS + lane.number * 16 + v] & places;
+    for p in (Bits { rest }) {
         clear_value(st, lane.cell(p), v);
     }
 }
 
-// Strikes u before place i of a line, and v behind it.
-fn clear_sides(st: &mut [u16], lane: Lane, i: usize, u: usize, v: usize)
-    requires { SidesAsk st.old lane i u v }
-    ensures { Struck st.old st.new (Sides lane i u v) }
-{
-    clear_run(st, lane, 0, i, u);
-    clear_run(st, lane, i + 1, lane.len, v);
-}
-
 // Strikes v at the other places of a line than i, if it is a value of the line's half.
 fn clear_others(st: &mut [u16], lane: Lane, i: usize, v: usize)
-    requires { SidesAsk st.old lane i v v }
+    requires { PlaceAsk st.old i v }
     ensures { Struck st.old st.new (Others lane i v) }
 {
     if lane.has(v) {
-        clear_sides(st, lane, i, v, v);
+        clear_places(st, lane, 511 - (1u16 << i), v);
     }
 }
 
 // Strikes what a black at place i leaves out of a line: second blacks before it and first blacks behind it.
 fn clear_around(st: &mut [u16], lane: Lane, i: usize)
-    requires { SidesAsk st.old lane i (lane.first + 1) lane.first }
+    requires { PlaceAsk st.old i (lane.first + 1) }
     ensures { Struck st.old st.new (Around lane i) }
 {
-    clear_sides(st, lane, i, lane.first + 1, lane.first);
+    clear_places(st, lane, (1u16 << i) - 1, lane.first + 1);
+    clear_places(st, lane, 512 - (1u16 << (i + 1)), lane.first);
 }
 
 // The other values of the half of v; of a digit, of both halves.

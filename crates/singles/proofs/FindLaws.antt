@@ -1,34 +1,35 @@
--- Looking for a candidate along a line. Assumes nothing.
+-- Looking for a candidate in a line's mask. Assumes nothing.
 use Rattle.std.specs.Prelude.{Option, Some, None, MatchOption}
-use Prim.Native.Nat.{ℕ, ◌+◌, ◌*◌, ◌/◌, ◌%◌, ◌^◌, ◌≤◌, ◌<◌}
-use mathlib.Core.Path.{◌≡◌, ◌∙◌}
+use Prim.Native.Nat.{ℕ, ◌+◌, ◌*◌, ◌<◌}
+use mathlib.Core.Path.{◌≡◌, sym, ap, ◌∙◌}
 use mathlib.Core.List.{List}
 use native.Mathlib.Omega.{arith}
-use lib.ListN.{get_or}
+use lib.Bits.{bit_and}
 use Rattle.bits.specs.Bit.{bit}
-use Rattle.bits.proofs.BitLaws.{bit_lt}
-use Rattle.queue_state.proofs.SlabLaws.{cand_in}
+use Rattle.bits.proofs.BitLaws.{bit_lt, bit_and_lem, bit_none}
+use Rattle.value.specs.Mask.{LowestOf}
+use Rattle.queue_state.specs.Slab.{cand, line_mask}
 use Rattle.lane.specs.declared.Lane.{Lane}
-use Rattle.lane.proofs.LaneLaws.{lane_in}
+use Rattle.value.proofs.RunMask.{run_mask, in_run, run_in}
 use Rattle.singles.specs.Handling.{FindAsk, PlaceFound}
 
--- place p has the candidate, as the code tests it, or it has not
-module _ (l : List ℕ) (start stride v p : ℕ) where
-  abbrev pub Here : Type 0
-  Here = get_or l (start + p * stride) 0 / 2 ^ v % 2 ≡ 1
+-- the mask of a line's places that have the value
+module _ {l : List ℕ} {v : ℕ} (lane : Lane) (a : FindAsk l lane.len v) where
+  abbrev pub places : ℕ
+  places = bit_and (line_mask l lane.number v) (run_mask 0 lane.len)
 
-  abbrev pub NotHere : Type 0
-  NotHere = Here → ⊥
+  -- a place has the value where its bit is set
+  at_place : (p : ℕ) → p < lane.len → bit p places ≡ cand l (lane.start + p * lane.stride) v
+  at_place p h =
+      let in_mask = bit_and_lem p (line_mask l lane.number v) (run_mask 0 lane.len) in
+      let full = run_in 0 lane.len p (omega arith) h a.few in
+      let here = a.sized.masks.bits lane.number p v lane.within (omega (arith, a.few)) a.value in
+      in_mask ∙ omega (arith, bit_lt p (line_mask l lane.number v)) ∙ here ∙ ap (λ x. cand l x v) (sym (lane.cells p (omega (arith, a.few))))
 
--- the first such place of a search
-pub found : {l : List ℕ} {v : ℕ} (lane : Lane) → FindAsk l lane.len v → (r : Option ℕ) →
-    MatchOption r ((k : ℕ) → 0 ≤ k → k < lane.len → NotHere l lane.start lane.stride v k)
-    (λ p. (0 ≤ p) × (p < lane.len) × Here l lane.start lane.stride v p × ((k : ℕ) → 0 ≤ k → k < p → NotHere l lane.start lane.stride v k)) →
-    PlaceFound l lane.len lane.start lane.stride v r
-unfolding bit
-found {v = v} lane a (Some p) g = (g.1, cand_in _ (lane.start + p * lane.stride) v (lane_in lane p (omega (arith, a.few, g.1))) ∙ g.2)
-found {l} {v} lane a None g =
-    λ k h.
-    let e = g k (omega arith) h in
-    cand_in l (lane.start + k * lane.stride) v (lane_in lane k (omega (arith, a.few)))
-    ∙ omega (arith, e, bit_lt v (get_or l (lane.start + k * lane.stride) 0))
+  -- the first of them
+  pub found : (r : Option ℕ) (t : ℕ) → MatchOption r ((places ≡ 0) × (t ≡ 0)) (λ p. LowestOf places p t) → PlaceFound l lane.len lane.start lane.stride v r
+  found (Some p) t g =
+      let inside : bit p (run_mask 0 lane.len) ≡ 1 = omega (arith, bit_and_lem p (line_mask l lane.number v) (run_mask 0 lane.len), bit_lt p (line_mask l lane.number v), bit_lt p (run_mask 0 lane.len), g.here) in
+      let h = (in_run 0 lane.len p (omega arith) a.few g.value inside).1 in
+      (h, sym (at_place p h) ∙ g.here)
+  found None t g = λ k h. sym (at_place k h) ∙ ap (bit k) g.0 ∙ bit_none k

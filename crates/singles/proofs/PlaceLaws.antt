@@ -13,7 +13,7 @@ use Rattle.table.specs.Table.{places}
 use Rattle.queue_state.specs.Layout.{counters_at, places_at}
 use Rattle.queue_state.specs.Slab.{cand, table_in, Struck, CounterAsk}
 use Rattle.queue_state.proofs.SlabLaws.{cand_lt}
-use Rattle.queue_state.proofs.StruckLaws.{grown_gone}
+use Rattle.queue_state.proofs.StruckLaws.{grown_gone, grown_sized}
 use Rattle.queue_state.proofs.ReadyLaws.{ready_grown, ready_valid}
 use Rattle.queue_state.specs.Ready.{Ready}
 use Rattle.set_cell.specs.Setting.{SetHit, SetAsk}
@@ -183,7 +183,7 @@ module _ {n counter start stride v : ℕ} {own : Bool} {l : List ℕ} (a : Place
           }
 
       pub find_ask : FindAsk l₁ n v
-      find_ask = record { size = fell_one.grown.size ∙ a.ready.sized.size; value = narrow a.ready a.counted; few = high a.ready a.counted }
+      find_ask = record { sized = grown_sized fell_one.grown a.ready.sized; value = narrow a.ready a.counted; few = high a.ready a.counted }
 
       pub places_empty : PlaceFound l₁ n start stride v None → PlacesDone n l l₁ own counter start stride v
       places_empty g =

@@ -1,8 +1,8 @@
 -- What a handler of a strike asks and gives. Assumes nothing.
-use Rattle.std.specs.Prelude.{ℕ, ◌+◌, ◌*◌, ◌≤◌, ◌<◌, ◌≡◌, Bool, ◌&&◌, List, Option, Some, None, leb, ltb, length}
+use Rattle.std.specs.Prelude.{ℕ, ◌+◌, ◌*◌, ◌≤◌, ◌<◌, ◌≡◌, Bool, ◌&&◌, List, Option, Some, None, leb, ltb}
 use Rattle.rules.specs.Grid.{Line, across, down, index}
-use Rattle.queue_state.specs.Layout.{row_half_at, places_at, row_blacks_at, lengths_at, slab_size}
-use Rattle.queue_state.specs.Slab.{cand}
+use Rattle.queue_state.specs.Layout.{row_half_at, places_at, row_blacks_at, lengths_at}
+use Rattle.queue_state.specs.Slab.{cand, Sized}
 use Rattle.queue_state.specs.Ready.{Ready, Next, Moved}
 use Rattle.table.specs.Value.{ValueOf}
 use Rattle.counters.specs.Counters.{in_line, halves_base, places_base, blacks_base, own_black, HalvesOf, PlacesOf, BlacksOf, Halves, LinePlaces, Blacks}
@@ -63,7 +63,7 @@ pub record SingletonDone (n : ℕ) (l l' : List ℕ) (r c v : ℕ) : Type 0 wher
 
 -- The value v can be looked for at n places of a line.
 pub record FindAsk (l : List ℕ) (n v : ℕ) : Type 0 where
-  pub size : length l ≡ slab_size
+  pub sized : Sized l
   pub value : v < 16
   pub few : n ≤ 9
 

@@ -11,7 +11,7 @@ ghost use Rattle.singles.specs.Handling.{HiddenAsk, HiddenDone, BlacksAsk, Black
 use lane::Lane;
 use queue_state::{Slab, clear_mask, lower};
 use set_cell::set_cell;
-use value::{Candidate, Value};
+use value::{Bits, Candidate, Value};
 
 // A strike of x: the counter of its cell's half of one of its lines falls, if x is of that half; a half with one candidate left is set to it.
 fn update_half(st: &mut [u16], lane: Lane, x: Candidate, counters: usize, mask: u16)
@@ -42,12 +42,14 @@ pub fn update_singleton(st: &mut [u16], n: usize, x: Candidate)
     update_half(st, column, x, Slab::COL_HALF, Value::COL_HALF);
 }
 
-// The first place of a line that has the candidate v.
+// The first place of a line that has the candidate v, by the line's mask.
 fn find_place(st: &[u16], lane: Lane, v: usize) -> Option<usize>
     requires { FindAsk st.now lane.len v }
     ensures { PlaceFound st.now lane.len lane.start lane.stride v result }
 {
-    (0..lane.len).find(|&p| (st[lane.cell(p)] >> v) % 2 == 1)
+    let rest = st[Slab::LINE_MASKS + lane.number * 16 + v] & ((1u16 << lane.len) - 1);
+    let mut places = Bits { rest };
+    places.next()
 }
 
 // The counter of a value's places in a line falls, if the line has the value; a value with one place left is set there.

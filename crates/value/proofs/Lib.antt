@@ -2,3 +2,4 @@
 pub mod MaskLaws
 pub mod LowestLaws
 pub mod WalkLaws
+pub mod RunMask

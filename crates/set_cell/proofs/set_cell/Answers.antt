@@ -5,11 +5,11 @@ use Rattle.set_cell.proofs.SetLaws.{ask_grown, ask_narrow, ask_row, ask_column, 
 use Rattle.set_cell.proofs.set_cell.Goals as goal
 
 pub clear_others-requires : goal.clear_others-requires
-clear_others-requires c = ask_row c.requires c.row-row.ensures (ask_narrow c.requires) (ask_narrow c.requires)
+clear_others-requires c = ask_row c.requires (ask_narrow c.requires)
 
 pub clear_others-requires-2 : goal.clear_others-requires-2
 clear_others-requires-2 c =
-    ask_column (ask_grown c.clear_others.ensures.grown c.requires) c.column-column.ensures (ask_narrow c.requires) (ask_narrow c.requires)
+    ask_column (ask_grown c.clear_others.ensures.grown c.requires) (ask_narrow c.requires)
 
 pub rest_of_half-requires : goal.rest_of_half-requires
 rest_of_half-requires c = ask_value c.requires
