@@ -8,8 +8,9 @@ use lib.ListN.{length, get_or, set, length-set}
 use lib.Seq.{get_or-set_same, get_or-set_other}
 use Rattle.bits.proofs.BitLaws.{shl_one}
 use Rattle.rules.specs.Size.{Size}
-use Rattle.words.specs.Word.{subset, mask_in, size_in, Known, word_from, word_of}
-use Rattle.words.proofs.WordFacts.{subset_fits}
+use Rattle.rules.specs.Check.{max_target}
+use Rattle.words.specs.Word.{subset, from_sum, mask_in, size_in, Known, word_from, word_of, Words}
+use Rattle.words.proofs.WordFacts.{subset_fits, subset_before, most_sum, from_sum_most}
 use Rattle.words.specs.Fill.{FillAsk, Filling, WordsFilled}
 
 module _ {n s x : ℕ} {ws₀ : List ℕ} (z : Size n) (a : FillAsk n s x ws₀) where
@@ -69,3 +70,18 @@ module _ {n s : ℕ} {ws : List ℕ} (z : Size n) (g : FilledTo n s ws) (h : s <
           let e : id / 9 ≡ s = omega arith in
           let m : mask_in s < 2 ^ (n - 1) = rw e at y.digits in
           absurd (omega (arith, top_is n z))
+
+-- the end of the loop: behind the subsets of the greatest sum
+module _ {n t : ℕ} (z : Size n) (d : t ≡ max_target n) where
+  pub end_asked : t + 1 < 30
+  end_asked = omega (arith, d, most_sum n z)
+
+  module _ {m : ℕ} (e : m ≡ from_sum (t + 1)) where
+    pub end_within : m ≤ 128
+    end_within = omega (arith, e, from_sum_most (t + 1) end_asked)
+
+    -- no subset of the size's digits stands from there on
+    pub filled_all : {ws : List ℕ} → {s : ℕ} → m ≤ s → FilledTo n s ws → Words n ws
+    filled_all {s = s} h g =
+        let there : m ≡ from_sum (max_target n + 1) = rw d at e in
+        record { size = g.long; each = λ id y. let before = subset_before (id / 9) (omega (arith, y.within)) n z y.digits in g.each id (omega arith) y }

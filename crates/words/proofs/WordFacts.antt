@@ -12,6 +12,7 @@ use Rattle.tally.proofs.WayLaws.{all_each}
 use Rattle.bits.specs.Bit.{bit}
 use Rattle.rules.proofs.SizeLaws.{at_size}
 use Rattle.rules.specs.Size.{Size}
+use Rattle.rules.specs.Check.{max_target}
 use Rattle.words.specs.Word.{subset_table, subset, sum_table, from_sum, mask_in, sum_in, size_in, digits_of, inner_places, steps}
 
 -- a test that is computed at each number of a span
@@ -34,6 +35,18 @@ fit_test s n = cond (ltb (mask_in s) (2 ^ (n - 1))) (leb (size_in s + 2) n) true
 fit_tests : all (λ s. all (fit_test s) (span 2 8)) (span 0 128) ≡ true
 unfolding fit_test subset_table subset span all
 fit_tests = refl
+
+-- the subsets of a size's digits stand before those of a greater sum than the digits have
+end_test : ℕ → ℕ → Bool
+end_test s n = cond (ltb (mask_in s) (2 ^ (n - 1))) (ltb s (from_sum (max_target n + 1))) true
+
+end_tests : all (λ s. all (end_test s) (span 2 8)) (span 0 128) ≡ true
+unfolding end_test subset_table subset from_sum sum_table max_target span all
+end_tests = refl
+
+most_tests : all (λ n. ltb (max_target n + 1) 30) (span 2 8) ≡ true
+unfolding max_target span all
+most_tests = refl
 
 sum_tests : all (λ k. leb (from_sum k) 128) (span 0 30) ≡ true
 unfolding from_sum sum_table span all
@@ -72,6 +85,17 @@ module _ (s : ℕ) (h : s < 128) where
       let t = at (λ s. all (fit_test s) (span 2 8)) 0 128 s (omega arith) (omega arith) fit_tests in
       let u = at_size (fit_test s) t n z in
       leb-true (size_in s + 2) n (rw (lt-ltb (mask_in s) (2 ^ (n - 1)) m) at u)
+
+  -- and stands before those of a greater sum than all its digits have
+  pub subset_before : (n : ℕ) → Size n → mask_in s < 2 ^ (n - 1) → s < from_sum (max_target n + 1)
+  unfolding end_test
+  subset_before n z m =
+      let t = at (λ s. all (end_test s) (span 2 8)) 0 128 s (omega arith) (omega arith) end_tests in
+      let u = at_size (end_test s) t n z in
+      ltb-true s (from_sum (max_target n + 1)) (rw (lt-ltb (mask_in s) (2 ^ (n - 1)) m) at u)
+
+pub most_sum : (n : ℕ) → Size n → max_target n + 1 < 30
+most_sum n z = ltb-true (max_target n + 1) 30 (at_size (λ n. ltb (max_target n + 1) 30) most_tests n z)
 
 -- the subsets of each sum begin within the table
 pub from_sum_most : (k : ℕ) → k < 30 → from_sum k ≤ 128

@@ -172,9 +172,9 @@ pub fn fill_words(words: &mut [u32], size: GridSize)
     ensures { Words size.n words.new }
 {
     let top = 1u16 << (size.n - 1);
-    // A copy on the stack: where the table is read in place, its address is made anew for each subset, and size 2 takes a quarter longer.
-    let subsets = Subset::ALL;
-    for (s, &x) in subsets.iter().enumerate() {
+    // All digits of the size have the greatest sum, and no subset of them stands behind.
+    for s in 0..from_sum(size.max_target() + 1) {
+        let x = Subset::ALL[s];
         if x % 256 < top {
             fill_starts(words, size, s, x);
         }
