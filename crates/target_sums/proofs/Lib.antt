@@ -1,5 +1,5 @@
 -- What the proofs of several functions use.
 mod BetweenLaws
+mod CellLaws
 mod LineLaws
-mod ScanLaws
 pub mod SumsLaws

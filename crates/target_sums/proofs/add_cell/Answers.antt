@@ -1,18 +1,14 @@
 -- `target_sums::add_cell` meets its contract. Assumes nothing.
+use Prim.Native.Nat.{◌≤◌}
 use mathlib.Core.Path.{refl}
-use native.Mathlib.Omega.{arith}
 use borrow.Author.Rules.{rules}
-use Rattle.target_sums.proofs.ScanLaws.{next_black, next_off, next_empty, next_number}
+use Rattle.target_sums.proofs.CellLaws.{next_black, next_other}
 use Rattle.target_sums.proofs.add_cell.Goals as goal
 
 pub returns-then-c-eq255 : goal.returns-then-c-eq255
-returns-then-c-eq255 c = next_black _ _ _ (search rules) refl refl refl
-
-pub returns-then-s-ne1 : goal.returns-then-s-ne1
-returns-then-s-ne1 c = next_off _ _ (search rules) (search rules)
-
-pub returns-then-c-eq0 : goal.returns-then-c-eq0
-returns-then-c-eq0 c = next_empty _ _ _ (search rules) (search rules) refl refl refl
+returns-then-c-eq255 c = (next_black _ _ _ c.if-c-eq255.true refl, next_black _ _ _ c.if-c-eq255.true refl)
 
 pub returns : goal.returns
-returns c = next_number _ _ _ (search rules) (search rules) (search rules) (search rules) refl refl (omega arith)
+returns c =
+    let z : c.args.c ≤ 255 = search rules in
+    (next_other _ _ _ _ z c.if-c-eq255.false c.weight-v.ensures c.add_between.ensures, next_other _ _ _ _ z c.if-c-eq255.false c.weight-v.ensures c.add_between-2.ensures)

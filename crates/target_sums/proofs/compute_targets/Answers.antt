@@ -1,30 +1,83 @@
 -- `target_sums::compute_targets` meets its contract. Assumes nothing.
-use mathlib.Core.Path.{◌∙◌}
+use mathlib.Core.Path.{ap, sym, ◌∙◌}
+use native.Mathlib.Omega.{arith}
 use Rattle.std.proofs.lemmas.Result.{err_from_is_err_and}
-use Rattle.rules.specs.Grid.{line_sum}
+use Rattle.std.proofs.lemmas.List.{get_or-replicate}
+use Rattle.tally.specs.Tally.{join}
+use Rattle.rules.specs.Check.{checked, check_line}
 use Rattle.grid_lines.proofs.LinesLaws.{each_of}
-use Rattle.target_sums.proofs.SumsLaws.{sums_fit, rows_ready, columns_ready, refused, done}
+use Rattle.target_sums.specs.Tallies.{tallied_sums}
+use Rattle.target_sums.proofs.LineLaws.{written, tallies_of}
+use Rattle.target_sums.proofs.SumsLaws.{front_fits, sums_front, sums_rows, sums_columns, refused, done}
 use Rattle.target_sums.proofs.compute_targets.Goals as goal
 
 pub returns-in_err-size : goal.returns-in_err-size
 returns-in_err-size c =
     let p = err_from_is_err_and c.from_residual.result c.from_residual.ensures.1 in
-    rw (p.1, p.2) (refused _ _ _ _ _ _ c.in_err-size.ensures)
+    rw (p.1, p.2) (refused _ _ _ _ _ _ (sums_front _ _ _ _ _ _ c.in_err-size.ensures))
 
-pub rows-requires : goal.rows-requires
-rows-requires c = let e = c.in_ok-size.ensures in rw e.1 (sums_fit _ _ _ _ _ e.0)
+pub rows-lines-requires : goal.rows-lines-requires
+rows-lines-requires c = let e = c.in_ok-size.ensures in rw e.1 (front_fits _ _ _ _ _ e.0).cells_fit
 
-pub put_sums-requires : goal.put_sums-requires
-put_sums-requires c = let e = c.in_ok-size.ensures in rows_ready _ _ _ _ _ e.0 c.rows.result (rw e.1 at c.rows.ensures)
+pub tally_grid-requires : goal.tally_grid-requires
+tally_grid-requires c =
+    let n = c.rows-lines.result.short in
+    record { room_across = n; room_down = n; clear = λ j h. get_or-replicate 9 j 0 0 (omega (arith, n, h)) }
+
+pub check_tallies-requires : goal.check_tallies-requires
+check_tallies-requires c =
+    record { room = omega (arith, c.rows-lines.result.short, c.tally_grid.auto.across); seen = c.tally_grid.ensures.rows_seen }
+
+pub returns-in_err-check_tallies : goal.returns-in_err-check_tallies
+returns-in_err-check_tallies c =
+    let e = c.in_ok-size.ensures in
+    let a = rw e.1 at c.rows-lines.ensures in
+    let d = c.in_err-check_tallies.ensures ∙ ap (λ l. checked (join l)) (each_of check_line c.rows-lines.result a) in
+    let p = err_from_is_err_and c.from_residual-in_err-check_tallies.result c.from_residual-in_err-check_tallies.ensures.1 in
+    rw (p.1, p.2) (refused _ _ _ _ _ _ (sums_rows _ _ _ _ _ e.0 _ d))
 
 pub columns-requires : goal.columns-requires
-columns-requires c = let e = c.in_ok-size.ensures in rw e.1 (sums_fit _ _ _ _ _ e.0)
+columns-requires c = let e = c.in_ok-size.ensures in rw e.1 (front_fits _ _ _ _ _ e.0).cells_fit
 
-pub put_sums-requires-2 : goal.put_sums-requires-2
-put_sums-requires-2 c = let e = c.in_ok-size.ensures in columns_ready _ _ _ _ _ e.0 c.columns.result (rw e.1 at c.columns.ensures)
+pub check_tallies-requires-2 : goal.check_tallies-requires-2
+check_tallies-requires-2 c =
+    let e = c.in_ok-size.ensures in
+    let a = rw e.1 at c.rows-lines.ensures in
+    let b = rw e.1 at c.columns.ensures in
+    tallies_of c.columns.result b (omega (arith, a.3, c.rows-lines.result.short, c.tally_grid.auto.down)) (rw (a.0, a.1, a.2, a.3) at c.tally_grid.ensures.columns_seen)
+
+pub returns-in_err-check_tallies-2 : goal.returns-in_err-check_tallies-2
+returns-in_err-check_tallies-2 c =
+    let e = c.in_ok-size.ensures in
+    let a = rw e.1 at c.rows-lines.ensures in
+    let b = rw e.1 at c.columns.ensures in
+    let d = c.in_ok-check_tallies.ensures.0 ∙ ap (λ l. checked (join l)) (each_of check_line c.rows-lines.result a) in
+    let f = c.in_err-check_tallies-2.ensures ∙ ap (λ l. checked (join l)) (each_of check_line c.columns.result b) in
+    let p = err_from_is_err_and c.from_residual-in_err-check_tallies-2.result c.from_residual-in_err-check_tallies-2.ensures.1 in
+    rw (p.1, p.2) (refused _ _ _ _ _ _ (sums_columns _ _ _ _ _ e.0 d f))
+
+pub write_sums-requires : goal.write_sums-requires
+write_sums-requires c =
+    let e = c.in_ok-size.ensures in
+    let f = front_fits _ _ _ _ _ e.0 in
+    let n = c.rows-lines.ensures.3 in
+    let s = c.rows-lines.result.short in
+    record {
+      equal = f.columns_long ∙ sym f.rows_long;
+      enough_across = omega (arith, c.tally_grid.auto.across, s, n, e.1, f.rows_long);
+      enough_down = omega (arith, c.tally_grid.auto.down, s, n, e.1, f.rows_long);
+    }
 
 pub returns : goal.returns
 returns c =
     let e = c.in_ok-size.ensures in
-    done _ _ _ _ _ _ _ e.0 (c.put_sums.ensures ∙ each_of line_sum c.rows.result (rw e.1 at c.rows.ensures))
-    (c.put_sums-2.ensures ∙ each_of line_sum c.columns.result (rw e.1 at c.columns.ensures))
+    let f = front_fits _ _ _ _ _ e.0 in
+    let a = rw e.1 at c.rows-lines.ensures in
+    let b = rw e.1 at c.columns.ensures in
+    let r = c.in_ok-check_tallies.ensures in
+    let s = c.in_ok-check_tallies-2.ensures in
+    let d = r.0 ∙ ap (λ l. checked (join l)) (each_of check_line c.rows-lines.result a) in
+    let g = s.0 ∙ ap (λ l. checked (join l)) (each_of check_line c.columns.result b) in
+    done _ _ _ _ _ _ _ (sums_columns _ _ _ _ _ e.0 d g)
+    (c.write_sums.ensures.0 ∙ written c.rows-lines.result (λ k. tallied_sums c.tally_grid.new.across k) a f.rows_long r.1)
+    (c.write_sums.ensures.1 ∙ written c.columns.result (λ k. tallied_sums c.tally_grid.new.down k) b f.rows_long s.1)
