@@ -16,7 +16,7 @@ use Rattle.queue_state.proofs.SlabLaws.{cand_lt}
 use Rattle.queue_state.proofs.StruckLaws.{grown_gone}
 use Rattle.queue_state.specs.Ready.{Moved}
 use Rattle.set_cell.proofs.SettingLaws.{or_left, or_right}
-use Rattle.counters.specs.Counters.{Fam, IsSet, AllSet, NoBlacks, in_line, half_value, place_of, halves_base, places_base, halves, line_places, blacks_base, own_black, cross_black, cell_blacks, HalvesOf, PlacesOf, BlacksOf, Halves, LinePlaces, Blacks}
+use Rattle.counters.specs.Counters.{Fam, IsSet, AllSet, NoBlacks, in_line, half_value, place_along, halves_base, places_base, halves, line_places, blacks_base, own_black, cross_black, cell_blacks, HalvesOf, PlacesOf, BlacksOf, Halves, LinePlaces, Blacks}
 use Rattle.counters.proofs.CounterLaws.{Fine, ruled_moved}
 
 -- ---- the values of a half in order
@@ -98,7 +98,7 @@ fine_halves ℓ =
     from (across r) = omega arith
     from (down c) = omega arith
 
-place_once : (ℓ : Line) (k j k' j' : ℕ) → k < 9 → j < 9 → k' < 9 → j' < 9 → place_of ℓ k j ≡ place_of ℓ k' j' → (k ≡ k') × (j ≡ j')
+place_once : (ℓ : Line) (k j k' j' : ℕ) → k < 9 → j < 9 → k' < 9 → j' < 9 → place_along ℓ k j ≡ place_along ℓ k' j' → (k ≡ k') × (j ≡ j')
 place_once (across r) k j k' j' h₁ h₂ h₃ h₄ e = omega arith
 place_once (down c) k j k' j' h₁ h₂ h₃ h₄ e = omega arith
 

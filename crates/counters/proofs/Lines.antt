@@ -19,7 +19,7 @@ use Rattle.table.specs.Value.{ValueOf}
 use Rattle.set_cell.specs.Setting.{SetHit, along_row, along_column, in_cell}
 use Rattle.set_cell.proofs.SettingLaws.{or_left, or_right, hits_strikes}
 use Rattle.set_cell.proofs.SetLaws.{table_yes, yes_table, no_table}
-use Rattle.counters.specs.Counters.{InGrid, in_line, place_of, line_places}
+use Rattle.counters.specs.Counters.{InGrid, in_line, place_along, line_places}
 
 -- ---- cells
 
@@ -28,7 +28,7 @@ unfolding index row_of column_of
 cell_is (across r) i h k = omega arith
 cell_is (down c) i h k = omega arith
 
-pub cell_place : (ℓ : Line) (i : ℕ) → place_of ℓ (index ℓ) i ≡ cell_of ℓ i
+pub cell_place : (ℓ : Line) (i : ℕ) → place_along ℓ (index ℓ) i ≡ cell_of ℓ i
 unfolding index
 cell_place (across r) i = refl
 cell_place (down c) i = refl

@@ -61,9 +61,9 @@ half_value (across r) j = j + 1
 half_value (down c) j = cond (ltb j 7) (j + 1) (j + 3)
 
 -- Place j of line number k of a kind.
-abbrev pub place_of : Line → ℕ → ℕ → ℕ
-place_of (across r) k j = k * 9 + j
-place_of (down c) k j = j * 9 + k
+abbrev pub place_along : Line → ℕ → ℕ → ℕ
+place_along (across r) k j = k * 9 + j
+place_along (down c) k j = j * 9 + k
 
 -- Where the counters of a line's halves begin.
 abbrev pub halves_base : Line → ℕ
@@ -86,7 +86,7 @@ line_places ℓ =
       base = places_base ℓ;
       size = 144;
       n = 9;
-      cell = λ i j. place_of ℓ (i / 16) j;
+      cell = λ i j. place_along ℓ (i / 16) j;
       value = λ i j. i % 16;
       used = λ n i. (i / 16 < n) × ValueOf n (i % 16) × (in_line ℓ (i % 16) ≡ true);
     }

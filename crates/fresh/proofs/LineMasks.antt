@@ -11,12 +11,12 @@ use Rattle.rules.specs.Size.{Size}
 use Rattle.table.specs.Value.{ValueOf}
 use Rattle.queue_state.specs.Layout.{line_mask_place}
 use Rattle.queue_state.specs.Slab.{line_mask}
-use Rattle.fresh.specs.Fresh.{RowsFull, places_of, mask_in_line, UnmaskedAsk, LineFull, MasksFull}
+use Rattle.fresh.specs.Fresh.{RowsFull, places_of, mask_in_line, FillLineAsk, LineFull, MasksFull}
 use Rattle.fresh.proofs.FillLaws.{Filled}
 use Rattle.fresh.proofs.FreshLaws.{full_bit, full_bit_lem, named_value, value_named}
 
 -- one line: its digits, then its blacks
-module _ {l a b : List ℕ} {n ℓ k : ℕ} (z : Size n) (u : UnmaskedAsk l ℓ) (e : k ≡ 2 ^ n - 1)
+module _ {l a b : List ℕ} {n ℓ k : ℕ} (z : Size n) (u : FillLineAsk l ℓ) (e : k ≡ 2 ^ n - 1)
     (d : Filled l a (line_mask_place ℓ 1) (line_mask_place ℓ (n - 1)) k) (f : Filled a b (line_mask_place ℓ 8) (line_mask_place ℓ 12) k) where
   named : (v : ℕ) → v < 16 → ValueOf n v → line_mask b ℓ v ≡ places_of n v
   unfolding ValueOf places_of
@@ -53,7 +53,7 @@ module _ {l a b : List ℕ} {n ℓ k : ℕ} (z : Size n) (u : UnmaskedAsk l ℓ)
       go v h false t = unnamed v h t
 
 -- where only the cells are filled
-pub rows_unmasked : {l : List ℕ} {n m full : ℕ} → RowsFull l n m full → (i : ℕ) → i < 18 → UnmaskedAsk l i
+pub rows_unmasked : {l : List ℕ} {n m full : ℕ} → RowsFull l n m full → (i : ℕ) → i < 18 → FillLineAsk l i
 rows_unmasked f i h = record { size = f.size; line = h; none = λ v k. f.rest (line_mask_place i v) (omega arith) }
 
 -- line after line
@@ -66,18 +66,18 @@ module _ (n m ℓ v : ℕ) where
   unfolding mask_in_line
   line_undone h = rw (le-ltb (ℓ % 9) m h) refl
 
-pub masks_start : {l : List ℕ} (n : ℕ) → ((i : ℕ) → i < 18 → UnmaskedAsk l i) → MasksFull l l n 0
+pub masks_start : {l : List ℕ} (n : ℕ) → ((i : ℕ) → i < 18 → FillLineAsk l i) → MasksFull l l n 0
 masks_start n u = record { size = refl; masks = λ ℓ v h k. (u ℓ h).none v k ∙ sym (line_undone n 0 ℓ v (omega arith)); rest = λ p h. refl }
 
-module _ {l a : List ℕ} {n m : ℕ} (s : (i : ℕ) → i < 18 → UnmaskedAsk l i) (g : MasksFull l a n m) (h : m < n) (z : n ≤ 9) where
-  undone : (ℓ : ℕ) → ℓ < 18 → ℓ % 9 ≡ m → UnmaskedAsk a ℓ
+module _ {l a : List ℕ} {n m : ℕ} (s : (i : ℕ) → i < 18 → FillLineAsk l i) (g : MasksFull l a n m) (h : m < n) (z : n ≤ 9) where
+  undone : (ℓ : ℕ) → ℓ < 18 → ℓ % 9 ≡ m → FillLineAsk a ℓ
   undone ℓ i e = record { size = g.size ∙ (s ℓ i).size; line = i; none = λ v k. g.masks ℓ v i k ∙ line_undone n m ℓ v (omega arith) }
 
-  pub row_unmasked : UnmaskedAsk a m
+  pub row_unmasked : FillLineAsk a m
   row_unmasked = undone m (omega arith) (omega arith)
 
   module _ {b : List ℕ} (r : LineFull a b n m) where
-    pub column_unmasked : UnmaskedAsk b (9 + m)
+    pub column_unmasked : FillLineAsk b (9 + m)
     column_unmasked =
         let u = undone (9 + m) (omega arith) (omega arith) in
         record { size = r.size ∙ u.size; line = u.line; none = λ v k. r.rest (line_mask_place (9 + m) v) (inr (omega arith)) ∙ u.none v k }

@@ -26,7 +26,7 @@ unfoldable pub places_of : ℕ → ℕ → ℕ
 places_of n v = cond (eqb (bit v (mask_of (every_value n))) 1) (2 ^ n - 1) 0
 
 -- All masks of line ℓ are 0.
-pub record UnmaskedAsk (l : List ℕ) (ℓ : ℕ) : Type 0 where
+pub record FillLineAsk (l : List ℕ) (ℓ : ℕ) : Type 0 where
   pub size : length l ≡ slab_size
   pub line : ℓ < 18
   pub none : (v : ℕ) → v < 16 → line_mask l ℓ v ≡ 0

@@ -2,7 +2,7 @@
 #![tactic(auto)]
 
 ghost use Rattle.std.specs.Prelude.{ℕ, ◌≡◌, ◌+◌, ◌*◌, ◌≤◌, ◌<◌, length};
-ghost use Rattle.fresh.specs.Fresh.{Blank, RowsFull, UnmaskedAsk, LineFull, MasksFull, Fresh};
+ghost use Rattle.fresh.specs.Fresh.{Blank, RowsFull, FillLineAsk, LineFull, MasksFull, Fresh};
 
 use grid_size::GridSize;
 use queue_state::Slab;
@@ -21,7 +21,7 @@ fn fill_cells(st: &mut [u16], size: GridSize, full: u16)
 
 // The masks of a line: each value of the size has every place.
 fn fill_line(st: &mut [u16], size: GridSize, line: usize)
-    requires { UnmaskedAsk st.old line }
+    requires { FillLineAsk st.old line }
     ensures { LineFull st.old st.new size.n line }
 {
     let at = Slab::LINE_MASKS + line * 16;
@@ -32,7 +32,7 @@ fn fill_line(st: &mut [u16], size: GridSize, line: usize)
 
 // The masks of every row and every column.
 fn fill_lines(st: &mut [u16], size: GridSize)
-    requires { (i : ℕ) → i < 18 → UnmaskedAsk st.old i }
+    requires { (i : ℕ) → i < 18 → FillLineAsk st.old i }
     ensures { MasksFull st.old st.new size.n size.n }
 {
     for i in 0..size.n {

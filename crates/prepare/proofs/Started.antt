@@ -22,7 +22,7 @@ use Rattle.queue_state.proofs.ReadyLaws.{ready_valid}
 use Rattle.table.specs.Value.{ValueOf}
 use Rattle.fresh.specs.Fresh.{cell_in, Fresh}
 use Rattle.fresh.proofs.FreshLaws.{full_cand, full_bit, full_bit_lem, fresh_cand, fresh_lag, fresh_full, fresh_ready}
-use Rattle.counters.specs.Counters.{Fam, Ruled, AllSet, NoBlacks, InGrid, half_value, place_of, halves_base, places_base, halves, line_places, blacks_base, own_black, cross_black, cell_blacks, HalvesOf, PlacesOf, BlacksOf, Halves, LinePlaces, Blacks}
+use Rattle.counters.specs.Counters.{Fam, Ruled, AllSet, NoBlacks, InGrid, half_value, place_along, halves_base, places_base, halves, line_places, blacks_base, own_black, cross_black, cell_blacks, HalvesOf, PlacesOf, BlacksOf, Halves, LinePlaces, Blacks}
 use Rattle.counters.proofs.Families.{value_narrow}
 
 -- ---- sums computed at each size
@@ -60,11 +60,11 @@ black_value : (ℓ : Line) → (8 ≤ own_black ℓ) × (own_black ℓ ≤ 10)
 black_value (across r) = (omega arith, omega arith)
 black_value (down c) = (omega arith, omega arith)
 
-place_in : (ℓ : Line) (n k j : ℕ) → n ≤ 9 → k < n → j < n → InGrid n (place_of ℓ k j)
+place_in : (ℓ : Line) (n k j : ℕ) → n ≤ 9 → k < n → j < n → InGrid n (place_along ℓ k j)
 place_in (across r) n k j z h q = (omega arith, omega arith)
 place_in (down c) n k j z h q = (omega arith, omega arith)
 
-place_out : (ℓ : Line) (n k j : ℕ) → n ≤ 9 → k < n → j < 9 → InGrid n (place_of ℓ k j) → j < n
+place_out : (ℓ : Line) (n k j : ℕ) → n ≤ 9 → k < n → j < 9 → InGrid n (place_along ℓ k j) → j < n
 place_out (across r) n k j z h q g = omega (arith, g.1)
 place_out (down c) n k j z h q g = omega (arith, g.0)
 
@@ -90,18 +90,18 @@ module _ {n : ℕ} {l : List ℕ} (s : Size n) (f : Fresh n l) where
       fresh_cand s f x v (omega (arith, g.0, s.high)) ∙ rw (lt-ltb (x / 9) n g.0, lt-ltb (x % 9) n g.1) (full_bit_lem n v s h)
 
   -- a value of the size is in the cells of a line that lie in the grid
-  line_cand : (ℓ : Line) (k j v : ℕ) → k < n → j < 9 → v < 16 → ValueOf n v → cand l (place_of ℓ k j) v ≡ cond (ltb j n) 1 0
+  line_cand : (ℓ : Line) (k j v : ℕ) → k < n → j < 9 → v < 16 → ValueOf n v → cand l (place_along ℓ k j) v ≡ cond (ltb j n) 1 0
   line_cand ℓ k j v a b h o = go (dec_lt j n)
     where
-      go : Dec (j < n) → cand l (place_of ℓ k j) v ≡ cond (ltb j n) 1 0
+      go : Dec (j < n) → cand l (place_along ℓ k j) v ≡ cond (ltb j n) 1 0
       go (yes q) =
           let g = place_in ℓ n k j s.high a q in
-          rw (lt-ltb j n q) (fresh_full s f (place_of ℓ k j) v h (record { row = g.0; column = g.1; value = o }))
-      go (no q) = rw (le-ltb j n (omega arith)) (none (dec_lt 0 (cand l (place_of ℓ k j) v)))
+          rw (lt-ltb j n q) (fresh_full s f (place_along ℓ k j) v h (record { row = g.0; column = g.1; value = o }))
+      go (no q) = rw (le-ltb j n (omega arith)) (none (dec_lt 0 (cand l (place_along ℓ k j) v)))
         where
-          none : Dec (0 < cand l (place_of ℓ k j) v) → cand l (place_of ℓ k j) v ≡ 0
+          none : Dec (0 < cand l (place_along ℓ k j) v) → cand l (place_along ℓ k j) v ≡ 0
           none (yes t) =
-              let w = ready_valid (fresh_ready s f) (place_of ℓ k j) v h (omega (arith, cand_lt l (place_of ℓ k j) v)) in
+              let w = ready_valid (fresh_ready s f) (place_along ℓ k j) v h (omega (arith, cand_lt l (place_along ℓ k j) v)) in
               absurd (q (place_out ℓ n k j s.high a b (w.row, w.column)))
           none (no t) = omega arith
 

@@ -312,19 +312,19 @@ module _ (l : List ℕ) (cell v t : ℕ) (a : StrikeAsk l cell v) (e : t ≡ tai
   strike_room = omega (arith, free a)
 
   -- the table and the queue as the code writes them
-  abbrev pub written : List ℕ
-  written = set (set (set l cell (get_or l cell 0 - 1 * 2 ^ v % 65536)) (entry_place t) (cell * 16 + v)) tail_at (t + 1)
+  abbrev pub as_written : List ℕ
+  as_written = set (set (set l cell (get_or l cell 0 - 1 * 2 ^ v % 65536)) (entry_place t) (cell * 16 + v)) tail_at (t + 1)
 
-  written_is : written ≡ entered l cell v
-  written_is = rw (shl_one v a.value, e) refl
+  as_written_is : as_written ≡ entered l cell v
+  as_written_is = rw (shl_one v a.value, e) refl
 
-  pub first_ask : UnmaskAsk (cell / 9) (cell % 9) v written
-  first_ask = rw written_is (row_ask l cell v a)
+  pub first_ask : UnmaskAsk (cell / 9) (cell % 9) v as_written
+  first_ask = rw as_written_is (row_ask l cell v a)
 
-  module _ {m : List ℕ} (f : m ≡ unmasked written (cell / 9) (cell % 9) v) where
+  module _ {m : List ℕ} (f : m ≡ unmasked as_written (cell / 9) (cell % 9) v) where
     first_is : m ≡ l₄ l cell v a
     unfolding l₄
-    first_is = f ∙ ap (λ y. unmasked y (cell / 9) (cell % 9) v) written_is
+    first_is = f ∙ ap (λ y. unmasked y (cell / 9) (cell % 9) v) as_written_is
 
     pub second_ask : UnmaskAsk (9 + cell % 9) (cell / 9) v m
     second_ask = rw first_is (column_ask l cell v a)

@@ -19,6 +19,7 @@ tail_at = queue_at + queue_room
 
 -- ---- line masks: strikes change them with the candidates
 
+-- The line masks begin behind the queue.
 abbrev pub line_masks_at : ℕ
 line_masks_at = tail_at + 1
 

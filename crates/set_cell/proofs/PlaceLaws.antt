@@ -18,7 +18,7 @@ use Rattle.lane.specs.Lanes.{lane_value}
 use Rattle.lane.specs.Rows.{RowLane, ColumnLane}
 use Rattle.queue_state.specs.Slab.{cand, line_mask, Struck, One}
 use Rattle.queue_state.proofs.StruckLaws.{struck_none, struck_both, struck_as}
-use Rattle.set_cell.specs.Places.{At, InMask, PlacesAsk, Running}
+use Rattle.set_cell.specs.Places.{At, InMask, MaskAsk, Running}
 use Rattle.set_cell.specs.Setting.{Others, Around}
 
 -- ---- the places of a mask, one after the other
@@ -56,10 +56,10 @@ running_next {lane = lane} {m = m} {rest = rest} {v = v} {p = p} {rest' = rest'}
     one x w q (no e) =
         inl (record { place = q.place; narrow = q.narrow; among = (q.among.0, sym (rest_keeps b q.place e) ∙ q.among.1); there = q.there; value = q.value })
 
-pub running_place : {l₀ l : List ℕ} {lane : Lane} {k v rest p : ℕ} → PlacesAsk l₀ k v → (m : ℕ) → Running l₀ l lane (bit_and m k) rest v → bit p rest ≡ 1 → p < 9
+pub running_place : {l₀ l : List ℕ} {lane : Lane} {k v rest p : ℕ} → MaskAsk l₀ k v → (m : ℕ) → Running l₀ l lane (bit_and m k) rest v → bit p rest ≡ 1 → p < 9
 running_place {k = k} {p = p} a m g e = few_places k p a.few (of_both m k p (g.within p e))
 
-pub running_end : {l₀ l : List ℕ} {lane : Lane} {k v rest : ℕ} → PlacesAsk l₀ k v → Running l₀ l lane (bit_and (line_mask l₀ lane.number v) k) rest v →
+pub running_end : {l₀ l : List ℕ} {lane : Lane} {k v rest : ℕ} → MaskAsk l₀ k v → Running l₀ l lane (bit_and (line_mask l₀ lane.number v) k) rest v →
     rest ≡ 0 → Struck l₀ l (At lane (InMask k) v)
 running_end {l₀} {l} {lane} {k} {v} {rest} a g z =
     struck_as g.struck

@@ -17,7 +17,7 @@ abbrev pub InMask : ℕ → ℕ → Type 0
 InMask m p = bit p m ≡ 1
 
 -- A state in which a value can be struck at the places of a mask, which has nine bits at most.
-pub record PlacesAsk (l : List ℕ) (m v : ℕ) : Type 0 where
+pub record MaskAsk (l : List ℕ) (m v : ℕ) : Type 0 where
   pub sized : Sized l
   pub few : m < 512
   pub value : v < 16

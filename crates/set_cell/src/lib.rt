@@ -3,7 +3,7 @@
 
 ghost use Rattle.std.specs.Prelude.{◌+◌, ◌≤◌, ◌<◌};
 ghost use Rattle.queue_state.specs.Slab.{Struck};
-ghost use Rattle.set_cell.specs.Places.{At, InMask, PlacesAsk, PlaceAsk};
+ghost use Rattle.set_cell.specs.Places.{At, InMask, MaskAsk, PlaceAsk};
 ghost use Rattle.set_cell.specs.Setting.{SetHit, SetAsk, Others, Around, RestOfHalf};
 
 use lane::Lane;
@@ -12,7 +12,7 @@ use value::{Bits, Candidate, Value};
 
 // Strikes v at the places of a mask, of which 511 has all nine: the line's own mask says who has it.
 fn clear_places(st: &mut [u16], lane: Lane, places: u16, v: usize)
-    requires { PlacesAsk st.old places v }
+    requires { MaskAsk st.old places v }
     ensures { Struck st.old st.new (At lane (InMask places) v) }
 {
     let rest = st[Slab::LINE_MASKS + lane.number * 16 + v] & places;

@@ -10,12 +10,12 @@ use Rattle.rules.specs.Grid.{digits, lawful, until_black, inside, line_sum, meet
 use Rattle.rules.specs.Number.{grids, solves, number, verdict_of}
 use Rattle.rules.specs.Check.{checked, refusal, max_target}
 use Rattle.rules.proofs.Samples.{diagonal, corner}
-use Rattle.text_rules.specs.Fields.{in_first, fields, is_digit, value_from, value, shaped, is_decimal, well_formed, numbers, puzzle_from, puzzle_of, number_checks, line_checks}
+use Rattle.text_rules.specs.Fields.{in_first, fields, is_digit, value_from, value, shaped, is_decimal, well_formed, numbers, puzzle_from, line_puzzle, number_checks, line_checks}
 use Rattle.text_rules.specs.Text.{number_text, cell_text, joined, grid_text, answer_text}
 
 -- The text of a line, with the grid that it shows.
 unfoldable pub sample_text : List ℕ → List ℕ → List ℕ
-sample_text l g = answer_text (refusal (line_checks l)) (verdict_of (number (puzzle_of l) [])) (puzzle_of l).size g
+sample_text l g = answer_text (refusal (line_checks l)) (verdict_of (number (line_puzzle l) [])) (line_puzzle l).size g
 
 -- A line of numbers below 10.
 unfoldable pub spaced : List ℕ → List ℕ

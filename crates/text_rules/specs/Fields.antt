@@ -64,8 +64,8 @@ unfoldable pub puzzle_from : List ℕ → Puzzle
 puzzle_from ns = record { size = size_of ns; rows = take (size_of ns) (targets_of ns); columns = drop (size_of ns) (targets_of ns) }
 
 -- The puzzle of a line.
-abbrev pub puzzle_of : List ℕ → Puzzle
-puzzle_of l = puzzle_from (numbers l)
+abbrev pub line_puzzle : List ℕ → Puzzle
+line_puzzle l = puzzle_from (numbers l)
 
 -- 1, 2, 3: the size is 2 to 9, there are twice as many targets, and each is at most the greatest.
 unfoldable pub number_checks : List ℕ → List Check

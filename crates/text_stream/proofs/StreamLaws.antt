@@ -10,7 +10,7 @@ use Rattle.rules.specs.Check.{checked, refusal}
 use Rattle.rules.specs.Number.{Verdict, unsolvable, unique, multiple, number, verdict_of}
 use Rattle.rules.proofs.CheckLaws.{refusal_none}
 use Rattle.rules.proofs.SizeLaws.{size_in}
-use Rattle.text_rules.specs.Fields.{well_formed, puzzle_from, puzzle_of, number_checks, line_checks}
+use Rattle.text_rules.specs.Fields.{well_formed, puzzle_from, line_puzzle, number_checks, line_checks}
 use Rattle.text_rules.specs.Text.{refused_word, number_text, answer_text}
 use Rattle.rules.specs.Order.{found, first_or}
 use Rattle.text_rules.specs.Answered.{line_answer, Answered}
@@ -26,7 +26,7 @@ refused_11 line h = rw (lt-leb (length line) 80 h)
 too_long : (line : List ℕ) → 80 < length line → line_answer line ≡ refused_word ++ number_text 11
 unfolding line_answer answer_text
 too_long line h =
-    ap (λ k. answer_text k (verdict_of (number (puzzle_of line) [])) (puzzle_of line).size (first_or [] (found (puzzle_of line) []))) (refused_11 line h)
+    ap (λ k. answer_text k (verdict_of (number (line_puzzle line) [])) (line_puzzle line).size (first_or [] (found (line_puzzle line) []))) (refused_11 line h)
 
 pub answered_kept : (line text : List ℕ) → Answered (take 81 line) text → Answered line text
 answered_kept line text a = go (dec_lt (length line) 81)
@@ -50,14 +50,14 @@ text_short zero unsolvable n g h = omega arith
 text_short zero unique n g h = omega (arith, grid_short n g (h refl))
 text_short zero multiple n g h = omega (arith, grid_short n g (h refl))
 
-size_small : (line : List ℕ) → refusal (line_checks line) ≡ 0 → (puzzle_of line).size ≤ 9
+size_small : (line : List ℕ) → refusal (line_checks line) ≡ 0 → (line_puzzle line).size ≤ 9
 unfolding line_checks number_checks puzzle_from
 size_small line e = (size_in _ (refusal_none Size _ _ (refusal_none TextLine _ _ e).1).0).high
 
 pub answered_short : (line text : List ℕ) → Answered line text → length text ≤ 100
 unfolding line_answer
 answered_short line text a =
-    let short = text_short _ (verdict_of (number (puzzle_of line) [])) (puzzle_of line).size (first_or [] (found (puzzle_of line) [])) (size_small line) in
+    let short = text_short _ (verdict_of (number (line_puzzle line) [])) (line_puzzle line).size (first_or [] (found (line_puzzle line) [])) (size_small line) in
     omega (arith, ap length a, short)
 
 -- ---- one stream behind another
