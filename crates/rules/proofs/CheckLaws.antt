@@ -24,21 +24,24 @@ lacks k (check j b ∷ qs) = not (eqb (refusal_number j) k) && lacks k qs
 abbrev pub numbered : List Check → Bool
 numbered qs = lacks 0 qs
 
--- every refusal has a number
+-- every refusal has a number, of at most two digits
+number_between : (k : Refusal) → (0 < refusal_number k) × (refusal_number k < 100)
+number_between Size = (omega arith, omega arith)
+number_between TargetLengths = (omega arith, omega arith)
+number_between Target = (omega arith, omega arith)
+number_between MarkSpare = (omega arith, omega arith)
+number_between MarkPlace = (omega arith, omega arith)
+number_between MarkValue = (omega arith, omega arith)
+number_between CellsLength = (omega arith, omega arith)
+number_between Blacks = (omega arith, omega arith)
+number_between EmptyCell = (omega arith, omega arith)
+number_between Sum = (omega arith, omega arith)
+number_between TextLine = (omega arith, omega arith)
+number_between SizeLimit = (omega arith, omega arith)
+number_between ListLimit = (omega arith, omega arith)
+
 pub number_positive : (k : Refusal) → refusal_number k ≡ 0 → ⊥
-number_positive Size e = omega arith
-number_positive TargetLengths e = omega arith
-number_positive Target e = omega arith
-number_positive MarkSpare e = omega arith
-number_positive MarkPlace e = omega arith
-number_positive MarkValue e = omega arith
-number_positive CellsLength e = omega arith
-number_positive Blacks e = omega arith
-number_positive EmptyCell e = omega arith
-number_positive Sum e = omega arith
-number_positive TextLine e = omega arith
-number_positive SizeLimit e = omega arith
-number_positive ListLimit e = omega arith
+number_positive k e = omega (arith, (number_between k).0)
 
 -- nothing is refused exactly where the number is 0
 pub passed_number : (qs : List Check) → checked qs ≡ Ok tt → refusal qs ≡ 0
@@ -48,6 +51,14 @@ passed_number qs e = ap number_of e
 passed_answer : (r : Result ⊤ Refusal) → number_of r ≡ 0 → r ≡ Ok tt
 passed_answer (Ok tt) e = refl
 passed_answer (Err k) e = absurd (number_positive k e)
+
+pub refusal_small : (qs : List Check) → refusal qs < 100
+unfolding refusal
+refusal_small qs = go (checked qs)
+  where
+    go : (r : Result ⊤ Refusal) → number_of r < 100
+    go (Ok tt) = omega arith
+    go (Err k) = (number_between k).1
 
 pub passed_checks : (qs : List Check) → refusal qs ≡ 0 → checked qs ≡ Ok tt
 unfolding refusal

@@ -6,13 +6,10 @@ use Rattle.std.proofs.KnownBytes.{Consumes-trans, Appends-trans}
 use Rattle.text_rules.specs.Stream.{Written, Streamed}
 use Rattle.text_stream.specs.declared.Stream.{Stream}
 use Rattle.text_stream.specs.Stream.{BlockFed, LastGiven}
-use Rattle.sheet.specs.Run.{StartsOut, LinesAnswered, AllAnswered, PartAnswered}
+use Rattle.output.specs.Output.{StartsOut}
+use Rattle.sheet.specs.Run.{LinesAnswered, AllAnswered, PartAnswered}
 
 -- ---- results, and the same with another error
-
-pub on_err : {A E : Type 0} (r : Result A E) {P : Type 0} → P → OnErr r P
-on_err (Ok x) p = tt
-on_err (Err e) p = p
 
 -- The second result is the first with another error.
 pub ok_told : {A E F : Type 0} (r : Result A E) (r' : Result A F) {P Q : Type 0} → is_ok r' ≡ is_ok r → OnOk r P → (P → Q) → OnOk r' Q

@@ -1,17 +1,10 @@
 -- What `sheet` does between a reader and a writer. The bytes that a reader has left and those that a writer holds are known or not (`None`). Assumes
 -- nothing.
-use Rattle.std.specs.Prelude.{ℕ, ◌≡◌, ◌⊎◌, List, [], ◌++◌, Option}
+use Rattle.std.specs.Prelude.{ℕ, ◌⊎◌, List, [], ◌++◌, Option}
 use Rattle.std.specs.Io.KnownBytes.{Appends, Consumes, IsAtEnd}
 use Rattle.text_rules.specs.Stream.{Written, Streamed}
 use Rattle.text_stream.specs.declared.Stream.{Stream}
 use Rattle.text_stream.specs.Stream.{After}
-
--- Only a beginning of the bytes is written.
-pub record StartsOut (w w' : Option (List ℕ)) (bytes : List ℕ) : Type 0 where
-  pub text : List ℕ
-  pub cut : List ℕ
-  pub whole : bytes ≡ text ++ cut
-  pub writes : Appends w w' text
 
 -- The lines that end in what is read are answered.
 pub record LinesAnswered (r r' w w' : Option (List ℕ)) (s : Stream) : Type 0 where

@@ -3,14 +3,12 @@
 // nothing else is written.
 #![tactic(auto)]
 
-ghost use Rattle.std.specs.Prelude.{◌≡◌, ◌≢◌, ◌≤◌, ◌<◌, [], length, take, OnOk, OnErr, IfOk, IfErr};
-ghost use Rattle.std.specs.Io.{WritesAtMost};
-ghost use Rattle.std.specs.IoError.{error_kind};
-ghost use Rattle.std.specs.Io.KnownBytes.{Appends, WriteAppends, Consumes, IsAtEnd};
-ghost use Rattle.sheet.specs.Run.{StartsOut, AllAnswered, PartAnswered};
+ghost use Rattle.std.specs.Prelude.{◌≡◌, ◌≤◌, ◌<◌, [], length, take, OnOk, OnErr, IfOk};
+ghost use Rattle.std.specs.Io.KnownBytes.{Consumes, IsAtEnd};
+ghost use Rattle.sheet.specs.Run.{AllAnswered, PartAnswered};
 
 use arrayvec::ArrayVec;
-use std::fmt::Write as _;
+use output::{Message, write_out};
 use std::io::{ErrorKind, Read, Write};
 use std::{fmt, io};
 use text_stream::Stream;
@@ -22,70 +20,14 @@ pub enum Failure {
     Write(io::Error),
 }
 
-// The text of an error on its way to a writer, until std adds the system's number.
-#[derive(Drop)]
-struct Reason<'a, W> {
-    writer: Option<&'a mut W>,
-}
-
-impl<'a, W: fmt::Write> fmt::Write for Reason<'a, W> {
-    fn write_str(&mut self, s: &str) -> fmt::Result {
-        if s == " (os error " {
-            self.writer = None;
-        }
-        match &mut self.writer {
-            Some(writer) => writer.write_str(s),
-            None => Ok(()),
-        }
-    }
-}
-
-// What failed, and the system's reason.
-fn write_reason<W: fmt::Write>(writer: &mut W, what: &str, e: io::Error) -> fmt::Result {
-    writer.write_str(what)?;
-    Reason {
-        writer: Some(writer),
-    }
-    .write(e)
-}
-
 impl fmt::Display for Failure {
     fn fmt<W: fmt::Write>(&self, f: &mut fmt::Formatter<W>) -> fmt::Result {
-        match self {
-            Failure::Read(e) => write_reason(f, "sheet: cannot read standard input: ", *e),
-            Failure::Write(e) => write_reason(f, "sheet: cannot write to standard output: ", *e),
-        }
+        let (what, error) = match self {
+            Failure::Read(e) => ("sheet: cannot read standard input: ", *e),
+            Failure::Write(e) => ("sheet: cannot write to standard output: ", *e),
+        };
+        Message { what, error }.fmt(f)
     }
-}
-
-// Writes some of the bytes: none where a signal interrupted the write, which is to be made again.
-fn write_some<W: Write>(writer: &mut W, bytes: &[u8]) -> io::Result<usize>
-    ensures within { WritesAtMost result bytes.now }
-    ensures bytes { WriteAppends (W.contents writer.old) (W.contents writer.new) result bytes.now }
-    ensures again { IfErr result (λ e. error_kind e ≢ ErrorKind.Interrupted) }
-{
-    match writer.write(bytes) {
-        Ok(0) => Err(io::Error::from(ErrorKind::WriteZero)),
-        Err(e) if e.kind() == ErrorKind::Interrupted => Ok(0),
-        written => written,
-    }
-}
-
-// Writes all bytes, or tells why not. The library's `write_all` promises nothing of what is written where it fails.
-fn write_out<W: Write>(writer: &mut W, bytes: &[u8]) -> io::Result<()>
-    ensures all { OnOk result (Appends (W.contents writer.old) (W.contents writer.new) bytes.now) }
-    ensures cut { OnErr result (StartsOut (W.contents writer.old) (W.contents writer.new) bytes.now) }
-    ensures again { IfErr result (λ e. error_kind e ≢ ErrorKind.Interrupted) }
-{
-    let mut done = 0;
-    // To 2^64, as in the loops below: a signal may come any number of times, and a loop without an end would need a handle.
-    for _ in 0..u64::MAX {
-        if done == bytes.len() {
-            return Ok(());
-        }
-        done += write_some(writer, &bytes[done..])?;
-    }
-    Err(io::Error::from(ErrorKind::TimedOut))
 }
 
 // Reads some of the input: no byte at its end. A read that a signal interrupts is made again.
@@ -96,6 +38,7 @@ fn read_some<R: Read>(reader: &mut R, block: &mut [u8]) -> io::Result<usize>
     ensures end { IfOk result (λ n. n ≡ 0 → IsAtEnd (R.remaining reader.new)) }
     ensures kept { OnErr result (Consumes (R.remaining reader.old) (R.remaining reader.new) []) }
 {
+    // To 2^64, as in `write_out` and in the loop of `run`.
     for _ in 0..u64::MAX {
         match reader.read(block) {
             Err(e) if e.kind() == ErrorKind::Interrupted => {}

@@ -1,42 +1,19 @@
-// The text of an answer of `sheet`, appended to what a buffer holds. Nothing is written by `write!`: `fmt::Write` promises the bytes only where it
-// succeeds, and never that it does. How much room is left stands in contracts and not in a type: it is less after each push.
+// The text of an answer of `sheet`, appended to what a buffer holds (crates/text_buffer). Nothing is written by `write!`: `fmt::Write` promises the bytes
+// only where it succeeds, and never that it does.
 #![tactic(auto)]
 
-ghost use Rattle.std.specs.Prelude.{◌≡◌, ◌+◌, ◌-◌, ◌*◌, ◌≤◌, ◌++◌, map, length};
+ghost use Rattle.std.specs.Prelude.{◌≡◌, ◌+◌, ◌-◌, ◌*◌, ◌≤◌, ◌++◌, map, length, decimal};
 ghost use Rattle.arrayvec.specs.ArrayVec.{array_vec_len};
-ghost use Rattle.text_rules.specs.Text.{refused_word, number_text, cell_text, grid_text};
+ghost use Rattle.text_rules.specs.Text.{refused_word, cell_text, grid_text};
 ghost use Rattle.text_answer.specs.Shown.{Shown, led, CellsAsk, RowAsk, GridAsk, SolvedAsk};
 
 use arrayvec::ArrayVec;
-
-// A text.
-pub fn write_text<const N: usize>(text: &[u8], out: &mut ArrayVec<u8, N>)
-    requires { array_vec_len out.old + length text.now ≤ N }
-    ensures { out.new.items ≡ out.old.items ++ text.now }
-{
-    // Byte by byte: `try_extend_from_slice` looks again whether there is room.
-    for b in text {
-        out.push(*b);
-    }
-}
-
-// A refusal number in decimal.
-#[tactic(auto, unfolding(text_rules::specs::Text::number_text))]
-fn write_number<const N: usize>(k: u8, out: &mut ArrayVec<u8, N>)
-    requires { array_vec_len out.old + 2 ≤ N }
-    ensures { out.new.items ≡ out.old.items ++ number_text k }
-{
-    if k < 10 {
-        out.push(b'0' + k);
-    } else {
-        write_text(&[b'0' + k / 10, b'0' + k % 10], out);
-    }
-}
+use text_buffer::{write_number, write_text};
 
 // The text of a refusal.
 pub fn write_refused<const N: usize>(k: u8, out: &mut ArrayVec<u8, N>)
-    requires { array_vec_len out.old + 10 ≤ N }
-    ensures { out.new.items ≡ out.old.items ++ (refused_word ++ number_text k) }
+    requires { array_vec_len out.old + 11 ≤ N }
+    ensures { out.new.items ≡ out.old.items ++ (refused_word ++ decimal k) }
 {
     write_text(b"refused ", out);
     write_number(k, out);

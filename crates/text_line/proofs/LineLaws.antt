@@ -1,4 +1,5 @@
 -- The checks of a line, one after the other, and the text of each. Assumes nothing.
+use Rattle.std.specs.Fmt.{decimal}
 use Prim.Native.Nat.{ℕ, ◌+◌, ◌-◌, ◌*◌, ◌≤◌, ◌<◌}
 use mathlib.Core.Path.{◌≡◌, refl, sym, ap, subst, ◌∙◌}
 use mathlib.Core.Bool.{true, false, cond}
@@ -18,7 +19,7 @@ use Rattle.rules.specs.CheckParts.{size_fits}
 use Rattle.rules.proofs.UnitLaws.{plain_checks, hall_puzzle}
 use Rattle.rules.specs.Grid.{puzzle}
 use Rattle.text_rules.specs.Fields.{fields, in_first, value, well_formed, puzzle_from, number_checks, numbers, line_checks}
-use Rattle.text_rules.specs.Text.{refused_word, number_text}
+use Rattle.text_rules.specs.Text.{refused_word}
 use Rattle.text_rules.specs.Answered.{line_answer}
 use Rattle.std.specs.Prelude.{Ok, Err}
 use Rattle.text_line.specs.Line.{LineText, LineGiven, TargetsAsk, PuzzleText}
@@ -121,12 +122,12 @@ module _ (line : List ℕ) where
 
 module _ {line out : List ℕ} where
   pub refused_text : {l : List ℕ} (k : Refusal) → checked (line_checks line) ≡ Err k
-      → l ≡ out ++ (refused_word ++ number_text (refusal_number k)) → LineText line out l
+      → l ≡ out ++ (refused_word ++ decimal (refusal_number k)) → LineText line out l
   unfolding refusal line_answer
   refused_text k e w =
       let r : refusal (line_checks line) ≡ refusal_number k = ap number_of e in
       record {
-        text = refused_word ++ number_text (refusal_number k);
+        text = refused_word ++ decimal (refusal_number k);
         answers = rw r (refused_same (refusal_number k) _ _ _ (number_positive k));
         put = w;
       }

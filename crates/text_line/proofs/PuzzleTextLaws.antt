@@ -1,4 +1,5 @@
 -- The text of an answer of Solve is that of the puzzle. Assumes nothing.
+use Rattle.std.specs.Fmt.{decimal}
 use Prim.Native.Nat.{ℕ, zero, suc, ◌-◌, ◌*◌, ◌≤◌, ◌<◌}
 use mathlib.Core.Path.{◌≡◌, refl, sym, ap, subst, ◌∙◌}
 use mathlib.Core.Bool.{true, true≢false}
@@ -26,7 +27,7 @@ use Rattle.rules.specs.Short.{symbols}
 use Rattle.rules.specs.Size.{Size}
 use Rattle.engine.specs.declared.Verdict.{Verdict}
 use Rattle.engine.specs.Answer.{verdict_on, solve_answer, solve_cells}
-use Rattle.text_rules.specs.Text.{refused_word, number_text, answer_text}
+use Rattle.text_rules.specs.Text.{refused_word, answer_text}
 use Rattle.text_answer.specs.Shown.{shown, SolvedAsk}
 use Rattle.text_line.specs.Line.{solved_text, shows_grid, AnswerAsk, SolveTargetsAsk, TargetsAsk, PuzzleText}
 
@@ -60,7 +61,7 @@ shows (Ok tt) zero e = absurd (true≢false (sym e))
 shows (Ok tt) (suc zero) e = (refl, omega arith)
 shows (Ok tt) (suc (suc m)) e = (refl, omega arith)
 
-pub refused_same : (k : ℕ) (v : Found) (n : ℕ) (g : List ℕ) → (k ≡ 0 → ⊥) → refused_word ++ number_text k ≡ answer_text k v n g
+pub refused_same : (k : ℕ) (v : Found) (n : ℕ) (g : List ℕ) → (k ≡ 0 → ⊥) → refused_word ++ decimal k ≡ answer_text k v n g
 unfolding answer_text
 refused_same zero v n g z = absurd (z refl)
 refused_same (suc k) v n g z = refl

@@ -1,5 +1,5 @@
 -- What the answer to a line gives, and what its steps ask and give. Assumes nothing.
-use Rattle.std.specs.Prelude.{ℕ, ◌*◌, ◌≤◌, ◌<◌, ◌≡◌, Bool, true, false, List, [], ◌++◌, length, Result, Ok, Err, IsOk, IsErr}
+use Rattle.std.specs.Prelude.{ℕ, ◌*◌, ◌≤◌, ◌<◌, ◌≡◌, Bool, true, false, List, [], ◌++◌, length, Result, Ok, Err, IsOk, IsErr, decimal}
 use Rattle.tally.specs.Tally.{all}
 use Rattle.refusal.specs.declared.Refusal.{Refusal}
 use Rattle.refusal.specs.Number.{refusal_number}
@@ -11,7 +11,7 @@ use Rattle.rules.specs.Order.{found, first_or}
 use Rattle.engine.specs.declared.Verdict.{Verdict}
 use Rattle.engine.specs.declared.Verdict.TheVariants.{Unsolvable, Unique, Multiple}
 use Rattle.text_rules.specs.Fields.{line_checks}
-use Rattle.text_rules.specs.Text.{refused_word, unsolvable_word, unique_word, multiple_word, number_text, grid_text, answer_text}
+use Rattle.text_rules.specs.Text.{refused_word, unsolvable_word, unique_word, multiple_word, grid_text, answer_text}
 use Rattle.text_rules.specs.Answered.{Answered}
 use Rattle.text_answer.specs.Shown.{shown}
 
@@ -33,7 +33,7 @@ abbrev pub solved_text : Result Verdict Refusal → ℕ → List ℕ → List �
 solved_text (Ok Unsolvable) n g = unsolvable_word
 solved_text (Ok Unique) n g = unique_word ++ grid_text n g
 solved_text (Ok Multiple) n g = multiple_word ++ grid_text n g
-solved_text (Err k) n g = refused_word ++ number_text (refusal_number k)
+solved_text (Err k) n g = refused_word ++ decimal (refusal_number k)
 
 -- The answer shows a grid.
 abbrev pub shows_grid : Result Verdict Refusal → Bool

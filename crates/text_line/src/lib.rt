@@ -12,7 +12,8 @@ use arrayvec::{ArrayVec, CapacityError};
 use engine::{Verdict, solve};
 use grid_size::GridSize;
 use refusal::Refusal;
-use text_answer::{Grid, write_refused, write_solved, write_text};
+use text_answer::{Grid, write_refused, write_solved};
+use text_buffer::write_text;
 use text_numbers::read_numbers;
 use units::Unit;
 

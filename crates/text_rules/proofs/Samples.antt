@@ -1,4 +1,6 @@
 -- Facts about the definitions, by computation. Assumes nothing.
+use Rattle.std.specs.Fmt.{decimal}
+use Rattle.std.specs.Fmt.{digits as decimal_digits}
 use Prim.Native.Nat.{ℕ, ◌+◌}
 use mathlib.Core.Path.{◌≡◌, refl}
 use mathlib.Core.Bool.{Bool, true, ◌&&◌}
@@ -11,7 +13,7 @@ use Rattle.rules.specs.Number.{grids, solves, number, verdict_of}
 use Rattle.rules.specs.Check.{checked, refusal, max_target}
 use Rattle.rules.proofs.Samples.{diagonal, corner}
 use Rattle.text_rules.specs.Fields.{in_first, fields, is_digit, value_from, value, shaped, is_decimal, well_formed, numbers, puzzle_from, line_puzzle, number_checks, line_checks}
-use Rattle.text_rules.specs.Text.{number_text, cell_text, joined, grid_text, answer_text}
+use Rattle.text_rules.specs.Text.{cell_text, joined, grid_text, answer_text}
 
 -- The text of a line, with the grid that it shows.
 unfoldable pub sample_text : List ℕ → List ℕ → List ℕ
@@ -27,22 +29,22 @@ spaced (d ∷ (e ∷ ds)) = (48 + d) ∷ 32 ∷ spaced (e ∷ ds)
 
 -- 3 1 0 0 1 0 0: unique #1#/1##/##1
 pub sample_one : sample_text (spaced (3 ∷ 1 ∷ 0 ∷ 0 ∷ 1 ∷ 0 ∷ 0 ∷ [])) corner ≡ 117 ∷ 110 ∷ 105 ∷ 113 ∷ 117 ∷ 101 ∷ 32 ∷ 35 ∷ 49 ∷ 35 ∷ 47 ∷ 49 ∷ 35 ∷ 35 ∷ 47 ∷ 35 ∷ 35 ∷ 49 ∷ []
-unfolding sample_text spaced in_first fields is_digit value_from shaped is_decimal well_formed numbers puzzle_from number_checks line_checks number_text cell_text joined grid_text answer_text span all sum count in_front ways digits lawful until_black inside line_sum meets keeps_line cell row column line lines target keeps grids solves number verdict_of refusal checked max_target
+unfolding sample_text spaced in_first fields is_digit value_from shaped is_decimal well_formed numbers puzzle_from number_checks line_checks decimal_digits cell_text joined grid_text answer_text span all sum count in_front ways digits lawful until_black inside line_sum meets keeps_line cell row column line lines target keeps grids solves number verdict_of refusal checked max_target
 sample_one = refl
 
 -- 3 0 1 0 0 1 0: multiple 1##/#1#/##1
 pub sample_several : sample_text (spaced (3 ∷ 0 ∷ 1 ∷ 0 ∷ 0 ∷ 1 ∷ 0 ∷ [])) diagonal ≡ 109 ∷ 117 ∷ 108 ∷ 116 ∷ 105 ∷ 112 ∷ 108 ∷ 101 ∷ 32 ∷ 49 ∷ 35 ∷ 35 ∷ 47 ∷ 35 ∷ 49 ∷ 35 ∷ 47 ∷ 35 ∷ 35 ∷ 49 ∷ []
-unfolding sample_text spaced in_first fields is_digit value_from shaped is_decimal well_formed numbers puzzle_from number_checks line_checks number_text cell_text joined grid_text answer_text span all sum count in_front ways digits lawful until_black inside line_sum meets keeps_line cell row column line lines target keeps grids solves number verdict_of refusal checked max_target
+unfolding sample_text spaced in_first fields is_digit value_from shaped is_decimal well_formed numbers puzzle_from number_checks line_checks decimal_digits cell_text joined grid_text answer_text span all sum count in_front ways digits lawful until_black inside line_sum meets keeps_line cell row column line lines target keeps grids solves number verdict_of refusal checked max_target
 sample_several = refl
 
 -- 3 1 1 0 0 1 0: unsolvable
 pub sample_none : sample_text (spaced (3 ∷ 1 ∷ 1 ∷ 0 ∷ 0 ∷ 1 ∷ 0 ∷ [])) [] ≡ 117 ∷ 110 ∷ 115 ∷ 111 ∷ 108 ∷ 118 ∷ 97 ∷ 98 ∷ 108 ∷ 101 ∷ []
-unfolding sample_text spaced in_first fields is_digit value_from shaped is_decimal well_formed numbers puzzle_from number_checks line_checks number_text cell_text joined grid_text answer_text span all sum count in_front ways digits lawful until_black inside line_sum meets keeps_line cell row column line lines target keeps grids solves number verdict_of refusal checked max_target
+unfolding sample_text spaced in_first fields is_digit value_from shaped is_decimal well_formed numbers puzzle_from number_checks line_checks decimal_digits cell_text joined grid_text answer_text span all sum count in_front ways digits lawful until_black inside line_sum meets keeps_line cell row column line lines target keeps grids solves number verdict_of refusal checked max_target
 sample_none = refl
 
 -- 3 2 0 0 0 0 0: refused 3
 pub sample_too_great : sample_text (spaced (3 ∷ 2 ∷ 0 ∷ 0 ∷ 0 ∷ 0 ∷ 0 ∷ [])) [] ≡ 114 ∷ 101 ∷ 102 ∷ 117 ∷ 115 ∷ 101 ∷ 100 ∷ 32 ∷ 51 ∷ []
-unfolding sample_text spaced in_first fields is_digit value_from shaped is_decimal well_formed numbers puzzle_from number_checks line_checks number_text cell_text joined grid_text answer_text span all sum count in_front ways digits lawful until_black inside line_sum meets keeps_line cell row column line lines target keeps grids solves number verdict_of refusal checked max_target
+unfolding sample_text spaced in_first fields is_digit value_from shaped is_decimal well_formed numbers puzzle_from number_checks line_checks decimal_digits cell_text joined grid_text answer_text span all sum count in_front ways digits lawful until_black inside line_sum meets keeps_line cell row column line lines target keeps grids solves number verdict_of refusal checked max_target
 sample_too_great = refl
 
 -- ---- refusals
@@ -114,8 +116,8 @@ refused_eighty_one = refl
 -- ---- a number that is written is the decimal that is read
 
 unfoldable pub reads_back : ℕ → Bool
-reads_back k = is_decimal (number_text k) && eqb (value (number_text k)) k
+reads_back k = is_decimal (decimal k) && eqb (value (decimal k)) k
 
 pub reads_back_lem : all reads_back (span 0 100) ≡ true
-unfolding reads_back number_text is_decimal is_digit shaped value_from all span
+unfolding reads_back decimal_digits is_decimal is_digit shaped value_from all span
 reads_back_lem = refl

@@ -1,5 +1,5 @@
 -- The text that a line is answered by, without its line end. Assumes nothing.
-use Rattle.std.specs.Prelude.{ℕ, zero, suc, ◌+◌, ◌/◌, ◌%◌, cond, List, [], ◌∷◌, ◌++◌, map, ltb}
+use Rattle.std.specs.Prelude.{ℕ, zero, suc, ◌+◌, cond, List, [], ◌∷◌, ◌++◌, map, decimal}
 use Rattle.tally.specs.Tally.{span}
 use Rattle.rules.specs.Grid.{is_black, row}
 use Rattle.rules.specs.Number.{Verdict, unsolvable, unique, multiple}
@@ -20,10 +20,6 @@ unique_word = 117 ∷ 110 ∷ 105 ∷ 113 ∷ 117 ∷ 101 ∷ 32 ∷ []
 abbrev pub multiple_word : List ℕ
 multiple_word = 109 ∷ 117 ∷ 108 ∷ 116 ∷ 105 ∷ 112 ∷ 108 ∷ 101 ∷ 32 ∷ []
 
--- A refusal number in decimal. (It is at most 11, so two digits are enough.)
-unfoldable pub number_text : ℕ → List ℕ
-number_text k = cond (ltb k 10) ((48 + k) ∷ []) ((48 + k / 10) ∷ (48 + k % 10) ∷ [])
-
 -- A cell: `#` if it is black, else its digit.
 unfoldable pub cell_text : ℕ → ℕ
 cell_text c = cond (is_black c) 35 (48 + c)
@@ -40,7 +36,7 @@ grid_text n g = joined (map (λ r. map cell_text (row n g r)) (span 0 n))
 
 -- The text of a refusal number (0: not refused), a verdict, and the grid of size n that is shown.
 unfoldable pub answer_text : ℕ → Verdict → ℕ → List ℕ → List ℕ
-answer_text (suc k) v n g = refused_word ++ number_text (suc k)
+answer_text (suc k) v n g = refused_word ++ decimal (suc k)
 answer_text zero unsolvable n g = unsolvable_word
 answer_text zero unique n g = unique_word ++ grid_text n g
 answer_text zero multiple n g = multiple_word ++ grid_text n g

@@ -1,17 +1,22 @@
 -- A text that answers a line, a line of which only the first bytes are kept, and a stream that goes on. Assumes nothing.
-use Rattle.std.proofs.Common.{ℕ, zero, suc, ◌+◌, ◌/◌, ◌%◌, ◌≤◌, ◌<◌, ◌≡◌, refl, sym, ap, subst, ◌∙◌, true, false, cond, List, [], ◌∷◌, ◌++◌, append_assoc, append-nil, length, take, arith}
+use Rattle.std.specs.Fmt.{decimal}
+use Rattle.std.specs.Fmt.{digits as decimal_digits}
+use Rattle.std.proofs.Common.{ℕ, zero, suc, ◌≤◌, ◌<◌, ◌≡◌, refl, sym, ap, subst, ◌∙◌, true, List, [], ◌∷◌, ◌++◌, append_assoc, append-nil, length, take, arith}
 use native.Mathlib.Decide.{dec_lt}
-use lib.Dec.{ltb}
+use lib.Dec.{leb}
 use lib.ListN.{length-take}
 use lib.Seq.{take_all}
-use borrow.Author.Tests.{lt-leb}
+use borrow.Author.Tests.{lt-leb, leb-true}
+use Rattle.tally.specs.Tally.{span, all}
+use Rattle.tally.proofs.TallyLaws.{span_mem}
+use Rattle.tally.proofs.WayLaws.{all_each}
 use Rattle.refusal.specs.declared.Refusal.TheVariants.{Size, TextLine}
 use Rattle.rules.specs.Check.{checked, refusal}
 use Rattle.rules.specs.Number.{Verdict, unsolvable, unique, multiple, number, verdict_of}
-use Rattle.rules.proofs.CheckLaws.{refusal_none}
+use Rattle.rules.proofs.CheckLaws.{refusal_none, refusal_small}
 use Rattle.rules.proofs.SizeLaws.{size_in}
 use Rattle.text_rules.specs.Fields.{well_formed, puzzle_from, line_puzzle, number_checks, line_checks}
-use Rattle.text_rules.specs.Text.{refused_word, number_text, answer_text}
+use Rattle.text_rules.specs.Text.{refused_word, answer_text}
 use Rattle.rules.specs.Order.{found, first_or}
 use Rattle.text_rules.specs.Answered.{line_answer, Answered}
 use Rattle.text_rules.specs.Stream.{line_end, Written, nothing, byte, ended}
@@ -23,7 +28,7 @@ refused_11 : (line : List ℕ) → 80 < length line → refusal (line_checks lin
 unfolding refusal checked line_checks well_formed
 refused_11 line h = rw (lt-leb (length line) 80 h)
 
-too_long : (line : List ℕ) → 80 < length line → line_answer line ≡ refused_word ++ number_text 11
+too_long : (line : List ℕ) → 80 < length line → line_answer line ≡ refused_word ++ decimal 11
 unfolding line_answer answer_text
 too_long line h =
     ap (λ k. answer_text k (verdict_of (number (line_puzzle line) [])) (line_puzzle line).size (first_or [] (found (line_puzzle line) []))) (refused_11 line h)
@@ -38,17 +43,19 @@ answered_kept line text a = go (dec_lt (length line) 81)
 
 -- ---- how long a text is
 
-number_short : (k : ℕ) → length (number_text k) ≤ 2
-unfolding number_text
-number_short k =
-    elim (ltb k 10) as (λ b. length (cond b ((48 + k) ∷ []) ((48 + k / 10) ∷ (48 + k % 10) ∷ [])) ≤ 2) [ true ↦ omega arith | false ↦ omega arith ]
+decimals_short : all (λ k. leb (length (decimal k)) 2) (span 0 100) ≡ true
+unfolding decimal_digits all span
+decimals_short = refl
 
-text_short : (k : ℕ) (v : Verdict) (n : ℕ) (g : List ℕ) → (k ≡ 0 → n ≤ 9) → length (answer_text k v n g) ≤ 100
+decimal_short : (k : ℕ) → k < 100 → length (decimal k) ≤ 2
+decimal_short k h = leb-true _ _ (all_each (λ k. leb (length (decimal k)) 2) (span_mem 0 100 k (omega arith) (omega arith)) decimals_short)
+
+text_short : (k : ℕ) (v : Verdict) (n : ℕ) (g : List ℕ) → k < 100 → (k ≡ 0 → n ≤ 9) → length (answer_text k v n g) ≤ 100
 unfolding answer_text
-text_short (suc k) v n g h = omega (arith, number_short (suc k))
-text_short zero unsolvable n g h = omega arith
-text_short zero unique n g h = omega (arith, grid_short n g (h refl))
-text_short zero multiple n g h = omega (arith, grid_short n g (h refl))
+text_short (suc k) v n g s h = omega (arith, decimal_short (suc k) s)
+text_short zero unsolvable n g s h = omega arith
+text_short zero unique n g s h = omega (arith, grid_short n g (h refl))
+text_short zero multiple n g s h = omega (arith, grid_short n g (h refl))
 
 size_small : (line : List ℕ) → refusal (line_checks line) ≡ 0 → (line_puzzle line).size ≤ 9
 unfolding line_checks number_checks puzzle_from
@@ -57,7 +64,8 @@ size_small line e = (size_in _ (refusal_none Size _ _ (refusal_none TextLine _ _
 pub answered_short : (line text : List ℕ) → Answered line text → length text ≤ 100
 unfolding line_answer
 answered_short line text a =
-    let short = text_short _ (verdict_of (number (line_puzzle line) [])) (line_puzzle line).size (first_or [] (found (line_puzzle line) [])) (size_small line) in
+    let short = text_short _ (verdict_of (number (line_puzzle line) [])) (line_puzzle line).size (first_or [] (found (line_puzzle line) []))
+    (refusal_small (line_checks line)) (size_small line) in
     omega (arith, ap length a, short)
 
 -- ---- one stream behind another

@@ -1,6 +1,7 @@
 -- `sheet::run` meets its contract. Assumes nothing.
 use Rattle.std.proofs.KnownBytes.{Consumes-nil}
-use Rattle.sheet.proofs.RunLaws.{on_err, ok_told, err_told, was_err, was_ok, was_value, lines_cut, lines_then, block_cut, all_answered, end_cut}
+use Rattle.output.proofs.ErrLaws.{on_err}
+use Rattle.sheet.proofs.RunLaws.{ok_told, err_told, was_err, was_ok, was_value, lines_cut, lines_then, block_cut, all_answered, end_cut}
 use Rattle.sheet.proofs.run.Goals as goal
 
 pub returns-in_err-n-clause-part : goal.returns-in_err-n-clause-part

@@ -2,8 +2,8 @@ use Rattle.std.proofs.Common.{◌-◌, ◌++◌, length, take, drop, sym, ap, su
 use lib.Seq.{take-add, take-take}
 use Rattle.std.specs.Io.KnownBytes.{Appends}
 use Rattle.std.proofs.KnownBytes.{Appends-trans, Appends-kept}
-use Rattle.sheet.proofs.RunLaws.{on_err}
-use Rattle.sheet.proofs.write_out.Goals as goal
+use Rattle.output.proofs.ErrLaws.{on_err}
+use Rattle.output.proofs.write_out.Goals as goal
 
 pub returns-in_err-done-clause-cut : goal.returns-in_err-done-clause-cut
 returns-in_err-done-clause-cut g c =

@@ -1,0 +1,2 @@
+-- What the proofs of this crate and of the program `sheet` use.
+pub mod ErrLaws
