@@ -5,7 +5,7 @@ use mathlib.Core.Bool.{Bool, true}
 use mathlib.Core.Logic.{◌⊎◌, inl, inr, ⊎_elim}
 use mathlib.Core.List.{List}
 use native.Mathlib.Omega.{arith}
-use native.Mathlib.Decide.{ℕ_discrete, dec_lt}
+use native.Mathlib.Decide.{ℕ_discrete}
 use native.Mathlib.Nat.{le_trans}
 use Rattle.bits.proofs.SumLaws.{same_no, sum_same, sum_has}
 use Rattle.rules.specs.Size.{Size}
@@ -19,7 +19,6 @@ use Rattle.words.specs.Word.{Known, word_of, part}
 use Rattle.arcs.specs.Arc.{lives, live, support, Tallied, Serves, Alive, DeadArrangement, Held, Backs, Holding}
 use Rattle.table.specs.Value.{HalfOf}
 use Rattle.table.specs.Lines.{cell_at, black_at}
-use Rattle.lane.proofs.LaneLaws.{cell_row, cell_column}
 use Rattle.arcs.specs.Sweep.{UnsupportedIn, LineMoved, Removed, Outlives, untouched, backed, AllAlive, Same}
 
 -- ---- alive

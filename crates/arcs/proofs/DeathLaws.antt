@@ -15,7 +15,8 @@ use Rattle.table.specs.Closed.{place, allows}
 use Rattle.queue_state.specs.Slab.{cand, line_mask}
 use Rattle.queue_state.proofs.SlabLaws.{cand_in}
 use Rattle.lane.specs.declared.Lane.{Lane}
-use Rattle.words.specs.Word.{mask_in, size_in, Known, arrangement_of, word_of, set_of, inner_of, from_of, to_of, steps, pattern, part}
+use Rattle.subset_table.specs.Subsets.{mask_in, size_in}
+use Rattle.words.specs.Word.{Known, arrangement_of, word_of, set_of, inner_of, from_of, to_of, steps, pattern, part}
 use Rattle.words.proofs.WordFacts.{mask_even}
 use Rattle.words.proofs.PatternLaws.{part_yes, part_pattern, part_digit, pattern_beyond, black_alone}
 use Rattle.words.proofs.WordLaws.{known_subset, known_fits, known_fields, known_steps, known_shaped}

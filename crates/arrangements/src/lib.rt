@@ -51,6 +51,13 @@ pub struct ArrangedLane<'a> {
 }
 
 impl<'a> ArrangedLane<'a> {
+    // The size of its grid.
+    pub fn size(self) -> GridSize
+        ensures { result.n ≡ self.entry.lane.len }
+    {
+        GridSize { n: self.lane.len }
+    }
+
     // The word of an arrangement, by its number.
     pub fn word(self, id: usize) -> u32
         requires { id < 1152 }

@@ -4,6 +4,7 @@ use mathlib.Core.Path.{◌≡◌, sym, ap, ◌∙◌, subst}
 use mathlib.Core.Bool.{Bool, true, false}
 use mathlib.Core.List.{List, [], ◌∷◌}
 use native.Mathlib.Omega.{arith}
+use Rattle.rules.specs.Size.{Size}
 use Rattle.rules.specs.Grid.{Puzzle}
 use Rattle.table.specs.Reading.{choices, read_off, AllSettled}
 use Rattle.line_laws.specs.Grids.{GridOf}
@@ -22,7 +23,7 @@ use Rattle.pick.proofs.ChoiceLaws.{row_choices_lem}
 use Rattle.grid_order.proofs.RemainingLaws.{remaining_same, remaining_none, remaining_one}
 use Rattle.backtrack.specs.Search.{NoneLeft, OneLeft, Branching}
 
-module _ {n : ℕ} {l l' : List ℕ} (z : n ≤ 9) where
+module _ {n : ℕ} {l l' : List ℕ} (z : Size n) where
   pub advance_none : {b : Bool} → b ≡ false → Propagated n l l' b → NoneLeft n l l'
   advance_none f a =
       let e = a.emptied f in
@@ -31,7 +32,7 @@ module _ {n : ℕ} {l l' : List ℕ} (z : n ≤ 9) where
         none = λ p q k.
             remaining_none p (table_in l)
             (same_left (a.sound p q k)
-            ∙ empty_left p (table_in l') (subst (λ m. m ≤ 9) (sym q) z) e.row e.column (subst (λ m. e.row < m) (sym q) e.row_in) (subst (λ m. e.column < m) (sym q) e.column_in)
+            ∙ empty_left p (table_in l') (subst (λ m. m ≤ 9) (sym q) z.high) e.row e.column (subst (λ m. e.row < m) (sym q) e.row_in) (subst (λ m. e.column < m) (sym q) e.column_in)
             (subst (λ m. Empty m (table_in l') e.row e.column) (sym q) e.empty));
       }
 
@@ -49,7 +50,7 @@ module _ {n : ℕ} {l l' : List ℕ} (z : n ≤ 9) where
 
       settled_at : (p : Puzzle) → p.size ≡ n → Kept p l → AllSettled p.size (table_in l')
       settled_at p q k =
-          no_stall p (table_in l') (subst (λ m. m ≤ 9) (sym q) z) (a.closed t p q k)
+          no_stall p (table_in l') (subst Size (sym q) z) (a.closed t p q k)
           (subst (λ m. (r c : ℕ) → r < m → c < m → Empty m (table_in l') r c → ⊥) (sym q) (a.filled t))
           (subst (λ m. (r c : ℕ) → r < m → c < m → choices m 8 (table_in l' r c) ≤ 1) (sym q) row_few)
 
@@ -59,7 +60,7 @@ module _ {n : ℕ} {l l' : List ℕ} (z : n ≤ 9) where
             size = a.size;
             ready = advance_ready;
             one = λ p q k.
-                let small = subst (λ m. m ≤ 9) (sym q) z in
+                let small = subst Size (sym q) z in
                 let u = table_in l' in
                 let cl = a.closed t p q k in
                 let se = settled_at p q k in
@@ -74,7 +75,7 @@ module _ {n : ℕ} {l l' : List ℕ} (z : n ≤ 9) where
         record {
           size = a.size;
           lagging = a.lagging t;
-          within = within_sub n l l' z a.sub;
+          within = within_sub n l l' z.high a.sub;
           kept = a.kept t;
           same = a.sound;
           closed = a.closed t;

@@ -171,7 +171,7 @@ module _ {p : Puzzle} {ms : List ℕ} {len : ℕ} (a : SolveAsk p ms len) where
       others_gone x v k e q ne h = gone x v k q (taken_alone (table_in m.before) k e v h ne)
 
       closed : Closed p t
-      closed = closed_same p (table_in l') t same (d.closed refl p refl m.kept)
+      closed = closed_same p (table_in l') t same a.count.puzzle.size.low (d.closed refl p refl m.kept)
 
       some : (r c : ℕ) → r < p.size → c < p.size → Empty p.size t r c → ⊥
       some r c hr hc e = d.filled refl r c hr hc (λ v k. sym (same r c v hr hc k) ∙ e v k)

@@ -1,5 +1,5 @@
 -- A table that has the same candidates as a closed one is closed, and what is alone in a half is set in both. Assumes nothing.
-use Prim.Native.Nat.{ℕ, ◌<◌}
+use Prim.Native.Nat.{ℕ, ◌<◌, ◌≤◌}
 use mathlib.Core.Path.{◌≡◌, sym, ap₂, ◌∙◌}
 use mathlib.Core.Bool.{true, ◌||◌}
 use mathlib.Core.List.{Memᴰ}
@@ -18,7 +18,7 @@ use Rattle.table.specs.Stable.{LoneSet}
 
 -- ---- one line
 
-module _ (n k t : ℕ) (x y : Places) (same : (i v : ℕ) → i < n → Memᴰ v (half n k) → y i v ≡ x i v) where
+module _ (n k t : ℕ) (low : 2 ≤ n) (x y : Places) (same : (i v : ℕ) → i < n → Memᴰ v (half n k) → y i v ≡ x i v) where
   live_same : (a : Arrangement) → IsArrangement n t a → Live n k x a → Live n k y a
   live_same a w alive = live_mono n k a x y (λ j v h b e. same (place n a j) v (step_lt n t a w j h) (allows_half n t a w k j v h b) ∙ e) alive
 
@@ -27,7 +27,7 @@ module _ (n k t : ℕ) (x y : Places) (same : (i v : ℕ) → i < n → Memᴰ v
       record {
         arrangement = s.arrangement;
         listed = s.listed;
-        alive = live_same s.arrangement (arranged n t s.arrangement s.listed) s.alive;
+        alive = live_same s.arrangement (arranged n t s.arrangement low s.listed) s.alive;
         covers = s.covers;
       }
 
@@ -65,12 +65,12 @@ module _ (p : Puzzle) (t u : Table) (same : (r c v : ℕ) → r < p.size → c <
             l.set ℓ i v h k m (same_place ℓ h i v k m e) (λ y o z. only y o (at ℓ h i y k o ∙ z)) r c w hr hc q (sym (same r c w hr hc q) ∙ x);
       }
 
-  pub closed_same : Closed p t → Closed p u
-  closed_same c =
+  pub closed_same : 2 ≤ p.size → Closed p t → Closed p u
+  closed_same low c =
       let n = p.size in
       let d : (v : ℕ) → Memᴰ v (digits n) → IsValue n v = λ v m. along_row v (digit_in n left_black m) in
       record {
-        lines = λ ℓ h. line_same n (first_black ℓ) (target p ℓ) (places t ℓ) (places u ℓ) (at ℓ (in_line n ℓ h)) (c.lines ℓ h);
+        lines = λ ℓ h. line_same n (first_black ℓ) (target p ℓ) low (places t ℓ) (places u ℓ) (at ℓ (in_line n ℓ h)) (c.lines ℓ h);
         crossed = λ r k i v hr hk hi m e only ne. same i k v hi hk (d v m)
             ∙ c.crossed r k i v hr hk hi m (sym (same r k v hr hk (d v m)) ∙ e) (λ w q f. only w q (same r k w hr hk (along_row w q) ∙ f)) ne;
         crossed_back = λ r k j v hr hk hj m e only ne. same r j v hr hj (d v m)

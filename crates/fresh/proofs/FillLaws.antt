@@ -9,8 +9,7 @@ use lib.ListN.{length, get_or, replicate, length-replicate}
 use borrow.Rule.Slice.PartMut.{put_mid, mid_of}
 use Rattle.std.proofs.lemmas.List.{places}
 use borrow.Author.Tests.{lt-ltb, le-ltb}
-use Rattle.table.specs.Table.{every_value}
-use Rattle.value.specs.Mask.{mask_of}
+use Rattle.table.specs.Table.{every_value, mask_of}
 use Rattle.queue_state.specs.Layout.{line_mask_place, row_half_at, row_blacks_at, lengths_at, slab_size}
 use Rattle.fresh.specs.Fresh.{Blank, cell_in, RowsFull, MasksFull, Fresh}
 

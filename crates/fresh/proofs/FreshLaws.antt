@@ -14,8 +14,7 @@ use Rattle.tally.proofs.TallyLaws.{and_left, and_right}
 use Rattle.rules.specs.Grid.{digits}
 use Rattle.rules.proofs.SizeLaws.{at_size}
 use Rattle.rules.specs.Size.{Size}
-use Rattle.table.specs.Table.{half, every_value}
-use Rattle.value.specs.Mask.{mask_of}
+use Rattle.table.specs.Table.{half, every_value, mask_of}
 use Rattle.value.proofs.MaskLaws.{mask_bits}
 use Rattle.value.proofs.RunMask.{run_bits}
 use Rattle.bits.specs.Bit.{bit}

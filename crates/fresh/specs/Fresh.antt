@@ -1,8 +1,7 @@
 -- The state before any strike, place by place. Assumes nothing.
 use Rattle.std.specs.Prelude.{ℕ, ◌-◌, ◌/◌, ◌%◌, ◌^◌, ◌≤◌, ◌<◌, ◌≡◌, ◌⊎◌, ◌&&◌, cond, List, eqb, ltb, length, get_or}
 use Rattle.bits.specs.Bit.{bit}
-use Rattle.table.specs.Table.{every_value}
-use Rattle.value.specs.Mask.{mask_of}
+use Rattle.table.specs.Table.{every_value, mask_of}
 use Rattle.queue_state.specs.Layout.{queue_at, line_masks_at, line_mask_place, counters_at, row_half_at, row_blacks_at, lengths_at, slab_size}
 use Rattle.queue_state.specs.Slab.{line_mask}
 

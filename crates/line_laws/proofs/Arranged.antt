@@ -1,7 +1,7 @@
 -- A listed arrangement: where it stands, what its pattern allows, and where it has its blacks. Assumes nothing.
 use Prim.Native.Nat.{ℕ, suc, ◌+◌, ◌-◌, ◌≤◌, ◌<◌}
 use mathlib.Core.Path.{◌≡◌, refl, sym, ap, ◌∙◌, subst}
-use mathlib.Core.Bool.{Bool, true, false, ◌&&◌, cond}
+use mathlib.Core.Bool.{Bool, true, false, cond}
 use mathlib.Core.Logic.{⊎_elim}
 use mathlib.Core.List.Memᴰ
 use mathlib.Core.List.{List, map, Memᴰ}
@@ -11,16 +11,16 @@ use lib.Dec.{eqb, ltb, leb}
 use lib.ListN.{length}
 use borrow.Author.Tests.{eqb-true, eq-eqb, ne_eqb, lt-ltb, le-ltb, ltb-true, le-leb, leb-true}
 use Rattle.tally.specs.Tally.{sum, any, span, keep, join}
-use Rattle.tally.proofs.TallyLaws.{and_left, and_right, and_both, span_in, span_mem, any_in, any_mem}
+use Rattle.tally.proofs.TallyLaws.{span_in, span_mem, any_in, any_mem}
 use Rattle.rules.specs.Grid.{digits, meets}
-use Rattle.table.specs.Closed.{Arrangement, subsets, subsets_with, from_starts, insides, outsides, arrangements, place, allows, Live}
+use Rattle.table.specs.Closed.{Arrangement, subsets, printed_before, printed, subsets_with, from_starts, insides, outsides, arrangements, place, allows, Live}
 use Rattle.table.proofs.ClosedTest.{Covers}
 use Rattle.table.specs.Table.{half}
 use Rattle.table.specs.Lines.{Places}
-use Rattle.tally.proofs.ListLaws.{mem_keep, of_keep}
+use Rattle.tally.proofs.ListLaws.{mem_keep, of_keep, mem_sort, of_sort}
 use Rattle.line_laws.proofs.Lists.{mem_join, of_join}
-use Rattle.line_laws.proofs.Subsets.{subset_mem}
-use Rattle.line_laws.proofs.Half.{digit_range, digit_in, first_in, second_in}
+use Rattle.line_laws.proofs.Subsets.{subset_length, subset_mem}
+use Rattle.line_laws.proofs.Half.{digits_length, digit_range, digit_in, first_in, second_in}
 
 -- ---- listed arrangements
 
@@ -40,23 +40,15 @@ pub record IsArrangement (n t : ℕ) (a : Arrangement) : Type 0 where
 module _ (n : ℕ) (ok : ℕ → Bool) where
   record Set (s : List ℕ) : Type 0 where
     subset : Memᴰ s (subsets (digits n))
-    short : length s + 2 ≤ n
     summed : ok (sum s) ≡ true
 
   mem_sets : (s : List ℕ) → Set s → Memᴰ s (subsets_with n ok)
-  unfolding subsets_with
-  mem_sets s m =
-      mem_join (λ k. keep (λ s. eqb (length s) k && ok (sum s)) (subsets (digits n))) (span_mem 0 (n - 1) (length s) (omega arith) (omega (arith, m.short)))
-      (mem_keep (λ r. eqb (length r) (length s) && ok (sum r)) m.subset (and_both (eq-eqb (length s) (length s) refl) m.summed))
+  unfolding subsets_with printed
+  mem_sets s m = mem_keep (λ s. ok (sum s)) (mem_sort printed_before m.subset) m.summed
 
   of_sets : (s : List ℕ) → Memᴰ s (subsets_with n ok) → Set s
-  unfolding subsets_with
-  of_sets s q =
-      let g = of_join (λ k. keep (λ s. eqb (length s) k && ok (sum s)) (subsets (digits n))) (span 0 (n - 1)) q in
-      let k = of_keep (λ s. eqb (length s) g.0 && ok (sum s)) (subsets (digits n)) g.2 in
-      let u = span_in 0 (n - 1) g.0 g.1 in
-      let e = eqb-true (length s) g.0 (and_left (eqb (length s) g.0) _ k.1) in
-      record { subset = k.0; short = omega arith; summed = and_right (eqb (length s) g.0) _ k.1 }
+  unfolding subsets_with printed
+  of_sets s q = let k = of_keep (λ s. ok (sum s)) (printed n) q in record { subset = of_sort printed_before (subsets (digits n)) k.0; summed = k.1 }
 
   -- and their arrangements with starts that pass a test
   module _ (fit : List ℕ → ℕ → Bool) (b : Bool) where
@@ -95,19 +87,22 @@ out_test n s x = ltb n (x + (length s + 2))
 
 module _ (n t : ℕ) (a : Arrangement) where
   -- LISTED: the list has just these arrangements.
-  pub arranged : Memᴰ a (arrangements n t) → IsArrangement n t a
+  pub arranged : 2 ≤ n → Memᴰ a (arrangements n t) → IsArrangement n t a
   unfolding arrangements insides outsides family in_test out_test
-  arranged m = ⊎_elim inner outer (Memᴰ.append_cases (insides n t) m)
+  arranged z m = ⊎_elim inner outer (Memᴰ.append_cases (insides n t) m)
     where
+      short : Memᴰ a.digit_set (subsets (digits n)) → length a.digit_set + 2 ≤ n
+      short u = omega (arith, z, subset_length (digits n) u, digits_length n)
+
       inner : Memᴰ a (insides n t) → IsArrangement n t a
       inner q =
           let w = of_family n (meets t) (in_test n) true a q in
-          record { subset = w.set.subset; short = w.set.short; starts = w.starts; kind = is_inside_lem w.is w.set.summed (leb-true _ n w.placed) }
+          record { subset = w.set.subset; short = short w.set.subset; starts = w.starts; kind = is_inside_lem w.is w.set.summed (leb-true _ n w.placed) }
 
       outer : Memᴰ a (outsides n t) → IsArrangement n t a
       outer q =
           let w = of_family n (λ x. meets t (sum (digits n) - x)) (out_test n) false a q in
-          record { subset = w.set.subset; short = w.set.short; starts = w.starts; kind = is_outside w.is w.set.summed (ltb-true n _ w.placed) }
+          record { subset = w.set.subset; short = short w.set.subset; starts = w.starts; kind = is_outside w.is w.set.summed (ltb-true n _ w.placed) }
 
   pub listed : IsArrangement n t a → Memᴰ a (arrangements n t)
   unfolding arrangements insides outsides family in_test out_test
@@ -116,10 +111,10 @@ module _ (n t : ℕ) (a : Arrangement) where
       go : Kind n t a → Memᴰ a (arrangements n t)
       go (is_inside_lem i e h) =
           Memᴰ.append_left (outsides n t) (mem_family n (meets t) (in_test n) true a
-          (record { set = record { subset = w.subset; short = w.short; summed = e }; is = i; starts = w.starts; placed = le-leb _ n h }))
+          (record { set = record { subset = w.subset; summed = e }; is = i; starts = w.starts; placed = le-leb _ n h }))
       go (is_outside i e h) =
           Memᴰ.append_right (insides n t) (mem_family n (λ x. meets t (sum (digits n) - x)) (out_test n) false a
-          (record { set = record { subset = w.subset; short = w.short; summed = e }; is = i; starts = w.starts; placed = lt-ltb n _ h }))
+          (record { set = record { subset = w.subset; summed = e }; is = i; starts = w.starts; placed = lt-ltb n _ h }))
 
 -- ---- its places
 

@@ -26,7 +26,7 @@ module _ (n k t : ℕ) (l : List ℕ) (law : LawfulLine n l) (high : 8 ≤ k) (a
   p = parts n l law
 
   w : IsArrangement n t a
-  w = arranged n t a m
+  w = arranged n t a (omega (arith, p.size)) m
 
   -- a digit of the line in the arrangement
   Stepped : ℕ → Type 0

@@ -144,21 +144,17 @@ module _ (n k : ℕ) (small : n ≤ 9) (two : 2 ≤ n) (high : 8 ≤ k) (v : ℕ
 
 -- ---- a closed and settled line
 
-module _ (n k t : ℕ) (m : Places) (small : n ≤ 9) (some : 0 < n) (high : 8 ≤ k) (c : ClosedLine n k t m) (v : ℕ → ℕ)
+module _ (n k t : ℕ) (m : Places) (small : n ≤ 9) (low : 2 ≤ n) (high : 8 ≤ k) (c : ClosedLine n k t m) (v : ℕ → ℕ)
     (s : (i : ℕ) → i < n → Settled n k (m i) (v i)) where
   -- an arrangement that is alive in it
   sup : Supported n k t m 0 (v 0)
-  sup = c.supported 0 (v 0) some (s 0 some).known (s 0 some).kept
+  sup = let some : 0 < n = omega arith in c.supported 0 (v 0) some (s 0 some).known (s 0 some).kept
 
   a : Arrangement
   a = sup.arrangement
 
   w : IsArrangement n t sup.arrangement
-  w = arranged n t sup.arrangement sup.listed
-
-  -- Its size is at least 2.
-  pub closed_size : 2 ≤ n
-  closed_size = omega (arith, w.short)
+  w = arranged n t sup.arrangement low sup.listed
 
   apart : (i j : ℕ) → i < n → j < n → v i ≡ v j → i ≡ j
   apart i j h g e =
@@ -176,13 +172,13 @@ module _ (n k t : ℕ) (m : Places) (small : n ≤ 9) (some : 0 < n) (high : 8 �
       rw e at u.2
 
   pub closed_lawful : LawfulLine n (line_of n v)
-  closed_lawful = apart_lawful n k small closed_size high v (λ i h. (s i h).known) apart
+  closed_lawful = apart_lawful n k small low high v (λ i h. (s i h).known) apart
 
   -- The places of the line have the settled values.
   pub closed_own : (i : ℕ) → i < n → own k (line_of n v) i ≡ v i
   unfolding a
   closed_own =
-      apart_own n k small closed_size high v (λ i h. (s i h).known) apart (place n a (first_step a)) (place n a (second_step a)) (first_second n t a w)
+      apart_own n k small low high v (λ i h. (s i h).known) apart (place n a (first_step a)) (place n a (second_step a)) (first_second n t a w)
       (step_lt n t a w (second_step a) (second_within a))
       (eqb-true _ k (sym (allows_first k a (v (place n a (first_step a)))) ∙ allowed (first_step a) (first_within a)))
       (eqb-true _ (suc k) (sym (allows_second k a (v (place n a (second_step a)))) ∙ allowed (second_step a) (second_within a)))

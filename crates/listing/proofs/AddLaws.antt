@@ -1,12 +1,11 @@
 -- Adding arrangements to a line, one after the other. Assumes nothing.
-use Prim.Native.Nat.{ℕ, zero, suc, ◌+◌, ◌-◌, ◌*◌, ◌/◌, ◌%◌, ◌^◌, ◌≤◌, ◌<◌}
+use Prim.Native.Nat.{ℕ, zero, suc, ◌+◌, ◌-◌, ◌*◌, ◌/◌, ◌%◌, ◌≤◌, ◌<◌}
 use mathlib.Core.Path.{◌≡◌, refl, sym, ap, ap₂, ◌∙◌}
 use mathlib.Core.Bool.{Bool, true, false}
 use mathlib.Core.List.{List, [], ◌∷◌, ◌++◌, map, append_assoc, append-nil, map-append}
 use native.Mathlib.Omega.{arith}
 use native.Mathlib.Decide.{dec_lt}
 use lib.ListN.{length, get_or, set, length-set, length-append, length-map}
-use borrow.Author.Tests.{lt-ltb, le-ltb}
 use lib.Seq.{get_or-set_same, get_or-set_other}
 use Rattle.std.specs.Bool.{IsTrue}
 use Rattle.std.specs.declared.ops.Range.{Range}
@@ -16,15 +15,15 @@ use Rattle.tally.proofs.TallyLaws.{sum_append, span_length}
 use Rattle.rules.proofs.StridedLaws.{map_next}
 use Rattle.lane.specs.declared.Lane.{Lane}
 use Rattle.rules.specs.Size.{Size}
-use Rattle.words.specs.Word.{mask_in, size_in, from_sum, Known, Shaped, word_of, part, on_side}
+use Rattle.subset_table.specs.Subsets.{subset, of_size, size_in, from_sum}
+use Rattle.words.specs.Word.{Known, Shaped, word_of, part, on_side}
 use Rattle.words.proofs.WordFacts.{subset_fits, from_sum_most}
-use Rattle.words.proofs.FillLaws.{top_is}
 use Rattle.words.proofs.PatternLaws.{part_lt}
 use Rattle.words.proofs.WordLaws.{known_shaped}
 use Rattle.arcs.specs.Arc.{lives, live, support}
 use Rattle.table.specs.Lines.{black_at}
 use Rattle.queue_state.specs.Layout.{length_place, per_line, live_place, support_place}
-use Rattle.listing.specs.Numbers.{scan, starts_from, of_size, side_from, side_of}
+use Rattle.listing.specs.Numbers.{scan, starts_from, side_from, side_of}
 use Rattle.listing.specs.Sides.{StartsAre}
 use Rattle.listing.specs.Listing.{list_of, Raised, WordAsk, Added, AddAsk, Adding, StartsAsk}
 
@@ -266,33 +265,24 @@ sum_start outside want from e a = rw e (adding_start a)
 
 module _ {lane : Lane} (z : Size lane.len) {l₀ l whole : List ℕ} (outside : Bool) (want s to : ℕ)
     (d : Adding lane l₀ l (side_from lane.len outside s (from_sum (want + 1))) whole) (e : to ≡ from_sum (want + 1)) where
-  top : 1 * 2 ^ (lane.len - 1) % 65536 ≡ 2 ^ (lane.len - 1)
-  top = top_is lane.len z
-
-  fits : mask_in s < 1 * 2 ^ (lane.len - 1) % 65536 → of_size lane.len s ≡ true
-  unfolding of_size
-  fits t = lt-ltb (mask_in s) (2 ^ (lane.len - 1)) (rw top at t)
-
   pub sum_low : s < to → want < 29 → s < 128
   sum_low h b = omega (arith, from_sum_most (want + 1) (omega arith))
 
-  pub sum_ask : s < to → want < 29 → mask_in s < 1 * 2 ^ (lane.len - 1) % 65536 →
+  pub sum_ask : s < to → want < 29 → of_size lane.len (subset s) ≡ true →
       AddAsk lane l (starts_from lane.len outside s (size_in s) 0) × StartsAsk lane.len s (size_in s)
   unfolding side_from
   sum_ask h b t =
-      let i = sum_low h b in
-      let q : mask_in s < 2 ^ (lane.len - 1) = rw top at t in
-      (scan_ask _ _ s _ d (omega arith) (fits t), record { among = i; digits = q; few = subset_fits s i lane.len z q })
+      let i = sum_low h b in (scan_ask _ _ s _ d (omega arith) t, record { among = i; digits = t; few = subset_fits s i lane.len z t })
 
-  pub sum_next : s < to → mask_in s < 1 * 2 ^ (lane.len - 1) % 65536 → {l' : List ℕ} →
+  pub sum_next : s < to → of_size lane.len (subset s) ≡ true → {l' : List ℕ} →
       Added lane.len lane.number l l' (starts_from lane.len outside s (size_in s) 0) →
       Adding lane l₀ l' (side_from lane.len outside (s + 1) (from_sum (want + 1))) whole
   unfolding side_from
-  sum_next h t r = scan_next _ _ s _ d (omega arith) (fits t) r
+  sum_next h t r = scan_next _ _ s _ d (omega arith) t r
 
-  pub sum_skip : s < to → 1 * 2 ^ (lane.len - 1) % 65536 ≤ mask_in s → Adding lane l₀ l (side_from lane.len outside (s + 1) (from_sum (want + 1))) whole
-  unfolding side_from of_size
-  sum_skip h t = scan_skip _ _ s _ d (omega arith) (le-ltb (mask_in s) (2 ^ (lane.len - 1)) (rw top at t))
+  pub sum_skip : s < to → of_size lane.len (subset s) ≡ false → Adding lane l₀ l (side_from lane.len outside (s + 1) (from_sum (want + 1))) whole
+  unfolding side_from
+  sum_skip h t = scan_skip _ _ s _ d (omega arith) t
 
   pub sum_end : to ≤ s → Added lane.len lane.number l₀ l whole
   unfolding side_from

@@ -1,5 +1,5 @@
 -- The numbers of a line's arrangements are those of the definition's list, and there is room for them in its list: computed at each size and target. Assumes nothing.
-use Prim.Native.Nat.{ℕ, ◌+◌, ◌-◌, ◌/◌, ◌%◌, ◌^◌, ◌≤◌, ◌<◌}
+use Prim.Native.Nat.{ℕ, ◌+◌, ◌/◌, ◌%◌, ◌≤◌, ◌<◌}
 use mathlib.Core.Path.{◌≡◌, refl, sym, ap, ap₂, ◌∙◌}
 use mathlib.Core.Bool.{Bool, true, false, ◌&&◌, true≢false}
 use mathlib.Core.List.{List, [], ◌∷◌, map}
@@ -7,18 +7,20 @@ use native.Mathlib.Omega.{arith}
 use lib.Dec.{eqb, ltb, leb}
 use lib.ListN.{length}
 use borrow.Author.Tests.{eqb-true, leb-true, ltb-true}
-use Rattle.tally.specs.Tally.{span, all, keep, join, sum}
+use Rattle.tally.specs.Tally.{span, all, count, keep, join, sort, insert, sum}
 use Rattle.tally.proofs.TallyLaws.{same_list, same_eq, span_mem, and_left, and_right}
 use Rattle.tally.proofs.WayLaws.{all_each, all_of_map}
 use Rattle.rules.specs.Grid.{digits, meets}
 use Rattle.rules.specs.Check.{max_target}
-use Rattle.table.specs.Closed.{Arrangement, subsets, subsets_with, from_starts, insides, outsides, arrangements}
+use Rattle.table.specs.Closed.{Arrangement, subsets, printed_before, printed, subsets_with, from_starts, insides, outsides, arrangements}
+use Rattle.table.specs.Table.{mask_of}
 use Rattle.bits.specs.Bit.{bit}
 use Rattle.rules.proofs.SizeLaws.{at_size}
 use Rattle.rules.specs.Size.{Size}
-use Rattle.words.specs.Word.{subset_table, subset, sum_table, from_sum, mask_in, digits_of, arrangement_of, Known, on_side}
+use Rattle.subset_table.specs.Subsets.{subset, of_size, from_sum}
+use Rattle.words.specs.Word.{digits_of, arrangement_of, Known, on_side}
 use Rattle.queue_state.specs.Layout.{per_line}
-use Rattle.listing.specs.Numbers.{scan, starts_from, of_size, side_from, side_of, numbers_for}
+use Rattle.listing.specs.Numbers.{scan, starts_from, side_from, side_of, numbers_for}
 
 -- ---- equal arrangements, by a test
 
@@ -39,7 +41,7 @@ same_all (a ∷ l) (b ∷ bs) = same_one a b && same_all l bs
 -- ---- the test at one size and target
 
 known_test : ℕ → ℕ → Bool
-known_test n id = ltb id 1152 && (ltb (id % 9) n && ltb (mask_in (id / 9)) (2 ^ (n - 1)))
+known_test n id = ltb id 1152 && (ltb (id % 9) n && of_size n (subset (id / 9)))
 
 list_test : ℕ → ℕ → Bool
 list_test n t =
@@ -47,8 +49,8 @@ list_test n t =
 
 list_tests : all (λ n. all (list_test n) (span 0 (max_target n + 1))) (span 2 8) ≡ true
 unfolding
-    list_test known_test same_all same_one alike same_list numbers_for side_of side_from of_size from_sum sum_table starts_from on_side scan arrangement_of digits_of subset subset_table
-    arrangements insides outsides from_starts subsets_with subsets digits meets max_target span all keep join sum bit
+    list_test known_test same_all same_one alike same_list numbers_for side_of side_from of_size from_sum starts_from on_side scan arrangement_of digits_of subset
+    arrangements insides outsides from_starts subsets_with printed printed_before mask_of subsets digits meets max_target span all count keep join sort insert sum bit
 list_tests = refl
 
 -- ---- what the tests say
@@ -104,5 +106,5 @@ module _ (n t : ℕ) (z : Size n) (h : t ≤ max_target n) where
       record {
         within = ltb-true _ _ (and_left (ltb (f j) 1152) _ b);
         starts = ltb-true _ _ (and_left (ltb (f j % 9) n) _ c);
-        digits = ltb-true _ _ (and_right (ltb (f j % 9) n) _ c);
+        digits = and_right (ltb (f j % 9) n) _ c;
       }

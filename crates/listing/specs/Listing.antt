@@ -1,12 +1,13 @@
 -- What a line's list and supports are, and what adding arrangements to them does. Assumes nothing.
-use Rattle.std.specs.Prelude.{ℕ, ◌+◌, ◌-◌, ◌*◌, ◌^◌, ◌≤◌, ◌<◌, min, ◌≡◌, cond, List, ◌++◌, map, ltb, length, get_or}
+use Rattle.std.specs.Prelude.{ℕ, ◌+◌, ◌-◌, ◌*◌, ◌≤◌, ◌<◌, min, ◌≡◌, cond, List, ◌++◌, map, ltb, length, get_or, true}
 use Rattle.tally.specs.Tally.{span}
 use Rattle.tally.specs.Tally as tally
 use Rattle.bits.specs.Bit.{bit}
 use Rattle.bits.specs.Sum.{sum_over, same}
 use Rattle.table.specs.Closed.{arrangements}
 use Rattle.lane.specs.declared.Lane.{Lane}
-use Rattle.words.specs.Word.{Known, arrangement_of, word_of, mask_in, set_of, inner_of, part}
+use Rattle.subset_table.specs.Subsets.{subset, of_size}
+use Rattle.words.specs.Word.{Known, arrangement_of, word_of, set_of, inner_of, part}
 use Rattle.arcs.specs.Arc.{lives, live, support}
 use Rattle.table.specs.Lines.{black_at, LineOf}
 use Rattle.queue_state.specs.Layout.{lengths_at, length_place, per_line, live_place, support_place, slab_size}
@@ -79,7 +80,7 @@ pub record Adding (lane : Lane) (l₀ l rest whole : List ℕ) : Type 0 where
 -- Subset s has len digits, all of size n.
 pub record StartsAsk (n s len : ℕ) : Type 0 where
   pub among : s < 128
-  pub digits : mask_in s < 2 ^ (n - 1)
+  pub digits : of_size n (subset s) ≡ true
   pub few : len + 2 ≤ n
 
 -- ---- lines

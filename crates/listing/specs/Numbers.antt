@@ -1,8 +1,9 @@
 -- The numbers of a line's arrangements, in the order in which they are listed. Assumes nothing.
-use Rattle.std.specs.Prelude.{ℕ, ◌+◌, ◌-◌, ◌*◌, ◌^◌, Bool, true, false, List, [], ◌∷◌, ◌++◌, map, ltb}
+use Rattle.std.specs.Prelude.{ℕ, ◌+◌, ◌-◌, ◌*◌, Bool, true, false, List, [], ◌∷◌, ◌++◌, map}
 use Rattle.tally.specs.Tally.{span, keep, join}
 use Rattle.rules.specs.Check.{max_target}
-use Rattle.words.specs.Word.{mask_in, size_in, from_sum, on_side}
+use Rattle.subset_table.specs.Subsets.{subset, of_size, size_in, from_sum}
+use Rattle.words.specs.Word.{on_side}
 
 -- What f lists for the numbers from a up to m that pass a test.
 unfoldable pub scan : (ℕ → List ℕ) → (ℕ → Bool) → ℕ → ℕ → List ℕ
@@ -12,13 +13,9 @@ scan f ok a m = join (map f (keep ok (span a (m - a))))
 unfoldable pub starts_from : ℕ → Bool → ℕ → ℕ → ℕ → List ℕ
 starts_from n outside s len a = scan (λ i. (s * 9 + i) ∷ []) (λ i. on_side n outside (i + len + 2)) a n
 
--- The digits of subset s are of size n.
-unfoldable pub of_size : ℕ → ℕ → Bool
-of_size n s = ltb (mask_in s) (2 ^ (n - 1))
-
--- The arrangements of one side from subset s on, up to subset m.
+-- The arrangements of one side from the subsets s to m - 1 whose digits are of size n.
 unfoldable pub side_from : ℕ → Bool → ℕ → ℕ → List ℕ
-side_from n outside s m = scan (λ i. starts_from n outside i (size_in i) 0) (of_size n) s m
+side_from n outside s m = scan (λ i. starts_from n outside i (size_in i) 0) (λ i. of_size n (subset i)) s m
 
 -- Those whose digits have the sum that is wanted.
 unfoldable pub side_of : ℕ → Bool → ℕ → List ℕ

@@ -3,20 +3,21 @@
 
 ghost use Rattle.std.specs.Prelude.{◌≡◌, ◌∷◌, [], ℕ, ◌+◌, ◌≤◌, ◌<◌};
 ghost use Rattle.rules.specs.Check.{max_target};
-ghost use Rattle.words.specs.Word.{size_in, part, Known};
+ghost use Rattle.subset_table.specs.Subsets.{size_in};
+ghost use Rattle.words.specs.Word.{part, Known};
 ghost use Rattle.listing.specs.Numbers.{starts_from, side_of, numbers_for};
 ghost use Rattle.listing.specs.Sides.{is_outside, StartsAre};
 ghost use Rattle.listing.specs.Listing.{Raised, one_at, digits_at, inner_at, RaiseAsk, WordAsk, Added, AddAsk, StartsAsk, LinesListed};
 ghost use Rattle.fresh.specs.Fresh.{Fresh};
 
 use arrangements::{ArrangedLane, Arrangement, Arrangements};
-use grid_size::GridSize;
 use lane::Lane;
 use puzzle::Puzzle;
 use queue_state::Slab;
 use std::ops::Range;
+use subset_table::{Subset, from_sum};
 use value::Bits;
-use words::{Subset, first_of, from_sum, inner_of, second_of, set_of};
+use words::{first_of, inner_of, second_of, set_of};
 
 // One more arrangement has the value v at place p of a line.
 fn raise_support(st: &mut [u16], lane: Lane, p: usize, v: usize)
@@ -100,7 +101,7 @@ fn list_starts(st: &mut [u16], arranged: ArrangedLane, side: Side, s: usize)
         × StartsAsk arranged.lane.len s (size_in s) }
     ensures { Added arranged.entry.lane.len arranged.entry.lane.number st.old st.new (starts_from arranged.entry.lane.len (is_outside side) s (size_in s) 0) }
 {
-    let len = usize::from(Subset::ALL[s] / 8192);
+    let len = usize::from(Subset::numbered(s).size);
     for start in side.starts(arranged.lane.len, len) {
         add_arrangement(st, arranged, s * 9 + start);
     }
@@ -111,9 +112,8 @@ fn list_side(st: &mut [u16], arranged: ArrangedLane, side: Side, want: usize)
     requires { AddAsk arranged.lane st.old (side_of arranged.lane.len (is_outside side) want) × (want < 29) }
     ensures { Added arranged.entry.lane.len arranged.entry.lane.number st.old st.new (side_of arranged.entry.lane.len (is_outside side) want) }
 {
-    let top = 1u16 << (arranged.lane.len - 1);
     for s in from_sum(want)..from_sum(want + 1) {
-        if Subset::ALL[s] % 256 < top {
+        if Subset::numbered(s).is_of_size(arranged.size()) {
             list_starts(st, arranged, side, s);
         }
     }
@@ -124,10 +124,7 @@ fn list_line(st: &mut [u16], arranged: ArrangedLane, target: usize)
     requires { AddAsk arranged.lane st.old (numbers_for arranged.lane.len target) × (target ≤ max_target arranged.lane.len) }
     ensures { Added arranged.entry.lane.len arranged.entry.lane.number st.old st.new (numbers_for arranged.entry.lane.len target) }
 {
-    let size = GridSize {
-        n: arranged.lane.len,
-    };
-    let other = size.max_target() - target;
+    let other = arranged.size().max_target() - target;
     list_side(st, arranged, Side::Inside, target);
     list_side(st, arranged, Side::Outside, other);
 }

@@ -20,8 +20,9 @@ use Rattle.queue_state.proofs.StruckLaws.{grown_sized, grown_trans}
 use Rattle.queue_state.specs.Ready.{Valid}
 use Rattle.table.specs.Value.{ValueOf, HalfOf}
 use Rattle.fresh.proofs.FreshLaws.{fresh_lag, fresh_full, fresh_ready}
-use Rattle.words.specs.Word.{mask_in, Known, set_of, inner_of, word_of, part}
-use Rattle.words.proofs.WordFacts.{mask_even}
+use Rattle.subset_table.specs.Subsets.{mask_in}
+use Rattle.words.specs.Word.{Known, set_of, inner_of, word_of, part}
+use Rattle.words.proofs.WordFacts.{mask_even, mask_below}
 use Rattle.words.proofs.WordLaws.{known_subset, known_fields}
 use Rattle.words.proofs.PatternLaws.{part_digit, part_other}
 use Rattle.arcs.specs.Arc.{lives, live, support, Tallied, Serves, Alive, Unsupported}
@@ -86,7 +87,7 @@ part_value n ℓ id p v z y e = go (dec_lt v 8)
 
     high : v < 8 → Dec (v < n - 1) → v < n - 1
     high h (yes x) = x
-    high h (no x) = absurd (omega (arith, bit_le v (mask_in (id / 9)) (digit h), y.digits, pow_mono {i = n - 1} {j = v} (omega arith)))
+    high h (no x) = absurd (omega (arith, bit_le v (mask_in (id / 9)) (digit h), mask_below (id / 9) n y.digits, pow_mono {i = n - 1} {j = v} (omega arith)))
 
     black : Dec (v ≡ black_at ℓ) → Dec (v ≡ suc (black_at ℓ)) → 8 ≤ v → (8 ≤ v) × (v < 12)
     black (yes x) _ h = omega (arith, black_low ℓ, black_high ℓ)

@@ -104,7 +104,7 @@ module _ (p : Puzzle) (z : Size p.size) (l : List ℕ)
           r.1,
           covers_part n k (live l k r.0) z y i v (subst (λ x. Covers n (black_at k) x i v) (sym r.2) (subst (λ b. Covers n b u.arrangement i v) (sym o.black)
               ((covers n (first_black ℓ) u.arrangement i v).holds u.covers))),
-          live_held p z t s k o (live l k r.0) (subst (IsArrangement n (target p ℓ)) (sym r.2) (arranged n (target p ℓ) u.arrangement u.listed))
+          live_held p z t s k o (live l k r.0) (subst (IsArrangement n (target p ℓ)) (sym r.2) (arranged n (target p ℓ) u.arrangement z.low u.listed))
               (subst (Live n (first_black ℓ) (places t ℓ)) (sym r.2) u.alive),
         )
       where

@@ -17,7 +17,8 @@ use Rattle.table.proofs.ClosedTest.{Covers, covers}
 use Rattle.table.specs.Table.{places, first_black, half}
 use Rattle.queue_state.specs.Slab.{cand, lag, table_in}
 use Rattle.queue_state.proofs.SlabLaws.{cand_lt}
-use Rattle.words.specs.Word.{mask_in, size_in, Known, arrangement_of, word_of, from_of, to_of, steps, pattern, part}
+use Rattle.subset_table.specs.Subsets.{mask_in, size_in}
+use Rattle.words.specs.Word.{Known, arrangement_of, word_of, from_of, to_of, steps, pattern, part}
 use Rattle.words.proofs.PatternLaws.{part_lt, part_yes, part_pattern, pattern_beyond}
 use Rattle.words.proofs.WordLaws.{known_fits, known_steps, known_shaped}
 use Rattle.words.proofs.Arranged.{known_length, place_in, steps_place, pattern_allows, allows_some, digits_narrow}

@@ -16,6 +16,7 @@ use Rattle.tally.proofs.WayLaws.{way_length}
 use Rattle.rules.specs.Grid.{is_black, digits, Puzzle, across, down, index, line, target, cell, row, column}
 use Rattle.rules.proofs.GridLaws.{line_way, line_in, symbols_once}
 use Rattle.rules.specs.Mark.{left_black, right_black, upper_black, lower_black}
+use Rattle.rules.specs.Size.{Size}
 use Rattle.rules.specs.Short.{symbols}
 use Rattle.table.proofs.ClosedTest.{covers}
 use Rattle.table.specs.Table.{Table, places, first_black, half, every_value}
@@ -31,7 +32,7 @@ use Rattle.line_laws.proofs.SettledLine.{Settled, symbol_of, cell_digit, cell_bl
 use Rattle.line_laws.proofs.GridLines.{line_cell}
 use Rattle.table.specs.Lines.{row_of, column_of}
 use Rattle.settled.proofs.ReadLaws.{value_of, settle, settled_choices, read_value, read_way, cell_read}
-use Rattle.settled.proofs.SettledTable.{line_size, read_lawful}
+use Rattle.settled.proofs.SettledTable.{read_lawful}
 use Rattle.settled.specs.EmptyCell.{Empty}
 
 -- ---- counting by rows and by columns
@@ -59,7 +60,7 @@ sum_tight f (Memᴰ.tail {x = y} {xs = ys} k) h l = sum_tight f k (λ w m. h w (
 
 -- ---- one candidate in each row half
 
-module _ (p : Puzzle) (t : Table) (z : p.size ≤ 9) (cl : Closed p t)
+module _ (p : Puzzle) (t : Table) (z : Size p.size) (cl : Closed p t)
     (one : (r c : ℕ) → r < p.size → c < p.size → choices p.size left_black (t r c) ≡ 1) where
   g : List ℕ
   g = read_off p.size t
@@ -73,7 +74,7 @@ module _ (p : Puzzle) (t : Table) (z : p.size ≤ 9) (cl : Closed p t)
 
   cell_is : (r c : ℕ) → r < p.size → c < p.size → cell p.size g r c ≡ symbol_of (v r c)
   unfolding g
-  cell_is r c h k = cell_read p.size t r c h k ∙ read_value p.size left_black (t r c) z (omega arith) (v r c) (set r c h k)
+  cell_is r c h k = cell_read p.size t r c h k ∙ read_value p.size left_black (t r c) z.high (omega arith) (v r c) (set r c h k)
 
   -- each row has two blacks
   rows_two : (r : ℕ) → r < p.size → count (λ c. is_black (cell p.size g r c)) (span 0 p.size) ≡ 2
@@ -116,13 +117,12 @@ module _ (p : Puzzle) (t : Table) (z : p.size ≤ 9) (cl : Closed p t)
   unfolding g sum column line index places first_black
   columns_least c k =
       let w = line_way p.size g (read_way p.size t) (down c) k in
-      let by = length_by_value (symbols p.size) (symbols_once p.size z) (column p.size g c) (λ x m. way_mem w x m) in
+      let by = length_by_value (symbols p.size) (symbols_once p.size z.high) (column p.size g c) (λ x m. way_mem w x m) in
       let most = sum_most (λ d. count (eqb d) (column p.size g c)) (digits p.size) (λ d m. column_once c d k m) in
       let flip : count (eqb 255) (column p.size g c) ≡ count is_black (column p.size g c) =
       count_ext (λ x. test_ext (eqb 255 x) (eqb x 255) (λ s. eq-eqb x 255 (sym (eqb-true 255 x s))) (λ s. eq-eqb 255 x (sym (eqb-true x 255 s))))
       (column p.size g c) in
-      let two = line_size p t z cl (across c) k (λ i l. one c i k l) in
-      omega (arith, way_length w, digits_length p.size, count_map is_black (λ r. cell p.size g r c) (span 0 p.size))
+      omega (arith, z.low, way_length w, digits_length p.size, count_map is_black (λ r. cell p.size g r c) (span 0 p.size))
 
   columns_two : (c : ℕ) → c < p.size → count (λ r. is_black (cell p.size g r c)) (span 0 p.size) ≡ 2
   columns_two c k =
@@ -173,10 +173,10 @@ module _ (p : Puzzle) (t : Table) (z : p.size ≤ 9) (cl : Closed p t)
   not_both r c h k a b =
       let x = sup r c upper_black h k (first_in p.size upper_black) a in
       let y = sup r c lower_black h k (second_in p.size upper_black) b in
-      let wx = arranged p.size (target p (down c)) x.arrangement x.listed in
-      let wy = arranged p.size (target p (down c)) y.arrangement y.listed in
-      let ex = covers_first p.size (target p (down c)) x.arrangement wx upper_black r (omega arith) z ((covers p.size upper_black x.arrangement r upper_black).holds x.covers) in
-      let ey = covers_second p.size (target p (down c)) y.arrangement wy upper_black r (omega arith) z ((covers p.size upper_black y.arrangement r lower_black).holds y.covers) in
+      let wx = arranged p.size (target p (down c)) x.arrangement z.low x.listed in
+      let wy = arranged p.size (target p (down c)) y.arrangement z.low y.listed in
+      let ex = covers_first p.size (target p (down c)) x.arrangement wx upper_black r (omega arith) z.high ((covers p.size upper_black x.arrangement r upper_black).holds x.covers) in
+      let ey = covers_second p.size (target p (down c)) y.arrangement wy upper_black r (omega arith) z.high ((covers p.size upper_black y.arrangement r lower_black).holds y.covers) in
       let last = step_lt p.size (target p (down c)) x.arrangement wx (second_step x.arrangement) (second_within x.arrangement) in
       let front = step_lt p.size (target p (down c)) y.arrangement wy (first_step y.arrangement) (first_within y.arrangement) in
       not_three c _ r _ k (omega (arith, ey, first_second p.size (target p (down c)) y.arrangement wy))
@@ -192,7 +192,7 @@ module _ (p : Puzzle) (t : Table) (z : p.size ≤ 9) (cl : Closed p t)
       s = set r c h k
 
       done : (b : ℕ) → Settled p.size upper_black (t r c) b → choices p.size upper_black (t r c) ≡ 1
-      done b w = settled_choices p.size upper_black (t r c) z (omega arith) b w
+      done b w = settled_choices p.size upper_black (t r c) z.high (omega arith) b w
 
       -- its row half has a digit
       digit : v r c < 8 → choices p.size upper_black (t r c) ≡ 1
@@ -271,6 +271,6 @@ row_some p t cl r c h k full = elim
             (or_split (t r c left_black) (t r c right_black) (cl.blacks r c h k ∙ x))
 
 -- NO STALL
-pub no_stall : (p : Puzzle) (t : Table) → p.size ≤ 9 → Closed p t → ((r c : ℕ) → r < p.size → c < p.size → Empty p.size t r c → ⊥) →
+pub no_stall : (p : Puzzle) (t : Table) → Size p.size → Closed p t → ((r c : ℕ) → r < p.size → c < p.size → Empty p.size t r c → ⊥) →
     ((r c : ℕ) → r < p.size → c < p.size → choices p.size left_black (t r c) ≤ 1) → AllSettled p.size t
 no_stall p t z cl full few = rows_settle p t z cl (λ r c h k. omega (arith, row_some p t cl r c h k (full r c h k), few r c h k))

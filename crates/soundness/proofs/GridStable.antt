@@ -18,7 +18,7 @@ use Rattle.table.specs.Stable.{Stable}
 use Rattle.table.specs.Value.{InHalf}
 use Rattle.table.proofs.ClosedTest.{covers}
 use Rattle.line_laws.specs.Grids.{GridOf}
-use Rattle.line_laws.proofs.Parts.{LawfulLine}
+use Rattle.line_laws.proofs.Parts.{LawfulLine, parts}
 use Rattle.line_laws.proofs.Half.{first_high, digit_in, first_in, second_in}
 use Rattle.line_laws.proofs.CellValues.{half_every}
 use Rattle.line_laws.proofs.GridLines.{place_in, places_cell, line_lawful, line_meets}
@@ -64,7 +64,7 @@ module _ (p : Puzzle) (small : p.size ≤ 9) (g : List ℕ) (d : GridOf p g) whe
         }
       where
         within : (j : ℕ) → j < length a.digit_set + 2 → place n a j < n
-        within j q = step_lt n (target p ℓ) a (arranged n (target p ℓ) a m) j q
+        within j q = step_lt n (target p ℓ) a (arranged n (target p ℓ) a (omega (arith, (parts n (line n g ℓ) lawful).size)) m) j q
 
     line_supported : (i v : ℕ) → i < n → InHalf n ℓ v → places t ℓ i v ≡ true → Supported n k (target p ℓ) (places t ℓ) i v
     line_supported i v hi m e =

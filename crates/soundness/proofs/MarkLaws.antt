@@ -10,15 +10,14 @@ use native.Mathlib.Decide.{ℕ_discrete}
 use lib.Dec.{ltb, leb}
 use borrow.Author.Tests.{ltb-true, leb-true}
 use Rattle.tally.specs.Tally.{all, join}
-use Rattle.tally.proofs.TallyLaws.{and_left, and_right, and_both, span_mem, or_split, false_of}
+use Rattle.tally.proofs.TallyLaws.{and_left, and_right, span_mem, or_split, false_of}
 use Rattle.rules.specs.Grid.{digits, Puzzle, across, down}
 use Rattle.rules.specs.Mark.{rejects, mark_row, mark_column, mark_value, has, keeps_mark}
 use Rattle.rules.specs.Short.{keeps_marks}
-use Rattle.rules.specs.Number.{solves, number, Solution}
+use Rattle.rules.specs.Number.{solves, number}
 use Rattle.refusal.specs.declared.Refusal.TheVariants.{MarkSpare, MarkPlace, MarkValue}
 use Rattle.rules.specs.Check.{refusal, named, check_mark}
 use Rattle.rules.specs.CheckParts.{mark_checks}
-use Rattle.rules.proofs.GridLaws.{way_solution}
 use Rattle.rules.proofs.CheckLaws.{lacks, refusal_none, refusal_none_left, refusal_none_right}
 use Rattle.table.specs.Table.{Table, first_black, fits, left, in_row, in_column}
 use Rattle.table.specs.Steps.{struck, taken, marked, marked_all}
@@ -26,8 +25,7 @@ use Rattle.line_laws.proofs.Half.{digit_in, first_in, second_in}
 use Rattle.line_laws.specs.Grids.{GridOf}
 use Rattle.line_laws.proofs.CellValues.{half_every}
 use Rattle.table.specs.Value.{IsValue}
-use Rattle.soundness.proofs.SameLaws.{within_fits, count_grids}
-use Rattle.soundness.specs.SameGrids.{Within}
+use Rattle.soundness.proofs.SameLaws.{count_grids}
 use Rattle.soundness.proofs.Taken.{strikes_here, taken_gone, struck_gone, taken_fits, struck_fits}
 use Rattle.soundness.specs.Marks.{AcceptedMark, Whole}
 

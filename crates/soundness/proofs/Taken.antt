@@ -1,5 +1,5 @@
 -- Setting a cell and striking a candidate: which grids still fit, and how a branch shares them out. Assumes nothing.
-use Prim.Native.Nat.{ℕ, suc, ◌+◌, ◌-◌, ◌≤◌, ◌<◌, min}
+use Prim.Native.Nat.{ℕ, suc, ◌+◌, ◌≤◌, ◌<◌}
 use mathlib.Core.Path.{◌≡◌, refl, sym, ap, ap₂, ◌∙◌, subst}
 use mathlib.Core.Bool.{Bool, true, false, not, ◌&&◌, ◌||◌, true≢false, and_assoc, and-false, or-true}
 use mathlib.Core.Logic.{◌≢◌, ◌⊎◌, inl, inr, ⊎_elim}
@@ -15,7 +15,6 @@ use Rattle.rules.specs.Mark.{has, left_black, upper_black}
 use Rattle.rules.specs.Number.{grids}
 use Rattle.table.specs.Table.{Table, first_black, half, fits, left, in_row, in_column}
 use Rattle.table.specs.Steps.{struck, strikes, taken}
-use Rattle.number.specs.CapLaws.{cap_split}
 use Rattle.line_laws.proofs.Half.{HalfValue, a_digit, a_first, a_second, half_value, digit_in}
 use Rattle.line_laws.proofs.GridLines.{place_in}
 use Rattle.line_laws.specs.Grids.{GridOf}

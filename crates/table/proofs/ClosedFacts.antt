@@ -2,12 +2,12 @@
 use mathlib.Core.Path.{◌≡◌, refl, ap, ◌∙◌}
 use mathlib.Core.Bool.{Bool, true, false}
 use mathlib.Core.List.{List, [], ◌∷◌}
-use Rattle.tally.specs.Tally.{span, sum, all, any, keep, join}
+use Rattle.tally.specs.Tally.{span, sum, all, any, keep, join, sort, insert}
 use Rattle.rules.specs.Grid.{digits, meets, across, cell, lines, Puzzle, target}
 use Rattle.rules.specs.Mark.{left_black, right_black}
-use Rattle.table.specs.Closed.{Arrangement, subsets, subsets_with, from_starts, insides, outsides, arrangements, place, allows, Live, Closed, lays}
+use Rattle.table.specs.Closed.{Arrangement, subsets, printed_before, printed, subsets_with, from_starts, insides, outsides, arrangements, place, allows, Live, Closed, lays}
 use Rattle.rules.proofs.Samples.{three}
-use Rattle.table.specs.Table.{Table, places, first_black, half, bit_of, has_bit, table_of}
+use Rattle.table.specs.Table.{Table, places, first_black, half, bit_of, mask_of, has_bit, table_of}
 use Rattle.table.specs.Steps.{struck}
 use Rattle.table.proofs.Decides.{refuted}
 use Rattle.table.proofs.ClosedTest.{live_test, filled_test, placed_test, supported_test, sole_test, every_test, cross_half, lone_test, crossed_test, single_test, blacks_test, supports_test, points, closed_test, live, closed}
@@ -92,7 +92,7 @@ pub record ClosedFacts : Type 0 where
 
 pub facts : ClosedFacts
 unfolding
-    span sum all any keep join digits meets cell lines target subsets subsets_with from_starts insides outsides arrangements three five
+    span sum all any keep join digits meets cell lines target subsets mask_of printed_before printed subsets_with sort insert from_starts insides outsides arrangements three five
     places first_black half bit_of has_bit table_of place allows struck lays
     live_test filled_test placed_test supported_test sole_test every_test cross_half lone_test crossed_test single_test blacks_test supports_test points closed_test
 facts =

@@ -4,12 +4,12 @@ use mathlib.Core.Path.{◌≡◌, refl, sym}
 use mathlib.Core.Bool.{Bool, true, false, not, ◌&&◌}
 use mathlib.Core.List.{[], ◌∷◌}
 use native.Mathlib.Omega.{arith}
-use Rattle.tally.specs.Tally.{span, sum, all, any, keep, join}
+use Rattle.tally.specs.Tally.{span, sum, all, any, keep, join, sort, insert}
 use Rattle.tally.proofs.TallyLaws.{span_in, span_mem}
 use Rattle.rules.specs.Grid.{digits, meets, Line, index, cell, lines, Puzzle, target}
 use Rattle.rules.proofs.Samples.{three}
-use Rattle.table.specs.Table.{Table, places, first_black, half, every_value, bit_of, has_bit, table_of}
-use Rattle.table.specs.Closed.{subsets, subsets_with, from_starts, insides, outsides, arrangements, place, allows, lays, Closed}
+use Rattle.table.specs.Table.{Table, places, first_black, half, every_value, bit_of, mask_of, has_bit, table_of}
+use Rattle.table.specs.Closed.{subsets, printed_before, printed, subsets_with, from_starts, insides, outsides, arrangements, place, allows, lays, Closed}
 use Rattle.table.specs.Steps.{strikes}
 use Rattle.table.specs.Lines.{row_of, column_of}
 use Rattle.table.specs.Stable.{LoneSet, Stable}
@@ -100,7 +100,7 @@ pub record StableFacts : Type 0 where
 
 pub facts : StableFacts
 unfolding
-    span sum all any keep join digits meets cell lines target subsets subsets_with from_starts insides outsides arrangements three ring
+    span sum all any keep join digits meets cell lines target subsets mask_of printed_before printed subsets_with sort insert from_starts insides outsides arrangements three ring
     places first_black half every_value bit_of has_bit table_of place allows lays strikes row_of column_of
     live_test filled_test placed_test supported_test sole_test every_test cross_half lone_test crossed_test single_test blacks_test supports_test points closed_test
     half_test value_test struck_test lone_set_test stable_test

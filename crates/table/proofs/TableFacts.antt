@@ -4,14 +4,14 @@ use mathlib.Core.Path.{◌≡◌, refl}
 use mathlib.Core.Bool.{Bool, true}
 use mathlib.Core.List.{List, [], ◌∷◌, map}
 use lib.Dec.{leb}
-use lib.ListN.{length}
-use Rattle.tally.specs.Tally.{span, sum, all, any, count, in_front, ways, keep, join, first}
+use lib.ListN.{length, take}
+use Rattle.tally.specs.Tally.{span, sum, all, any, count, in_front, ways, keep, join, sort, insert, first}
 use Rattle.rules.specs.Grid.{digits, lawful, until_black, inside, line_sum, meets, keeps_line, cell, row, column, line, lines, target, keeps}
 use Rattle.rules.specs.Mark.{rejects}
 use Rattle.rules.specs.Number.{grids}
-use Rattle.table.specs.Closed.{subsets, subsets_with, from_starts, insides, outsides, arrangements, place, allows, lays}
+use Rattle.table.specs.Closed.{subsets, printed_before, printed, subsets_with, from_starts, insides, outsides, arrangements, place, allows, lays}
 use Rattle.rules.proofs.Samples.{three}
-use Rattle.table.specs.Table.{Table, places, first_black, half, every_value, own, fits, left, bit_of, has_bit, table_of}
+use Rattle.table.specs.Table.{Table, places, first_black, half, every_value, own, fits, left, bit_of, mask_of, has_bit, table_of}
 use Rattle.table.specs.Steps.{struck, strikes, taken, marked, marked_all, lies, opening}
 use Rattle.table.specs.Reading.{read_cell, read_off}
 
@@ -27,7 +27,8 @@ pub record TableFacts : Type 0 where
   pub arrangements_3 : map (λ t. length (arrangements 3 t)) (1 ∷ 0 ∷ []) ≡ 2 ∷ 4 ∷ []
   pub arrangements_9 : map length (insides 9 12 ∷ outsides 9 12 ∷ arrangements 9 12 ∷ []) ≡ 39 ∷ 39 ∷ 78 ∷ []
   pub arrangements_most : all (λ t. leb (length (arrangements 9 t)) 78) (span 0 29) ≡ true
-  -- The order of the subsets: rising size, then rising mask.
+  -- The order of the subsets: rising sum, of one sum rising size, of one size rising mask.
+  pub printed_order : take 6 (printed 6) ≡ [] ∷ (1 ∷ []) ∷ (2 ∷ []) ∷ (3 ∷ []) ∷ (1 ∷ 2 ∷ []) ∷ (4 ∷ []) ∷ []
   pub subsets_order : subsets_with 7 (meets 5) ≡ (5 ∷ []) ∷ (2 ∷ 3 ∷ []) ∷ (1 ∷ 4 ∷ []) ∷ []
   -- rows and columns 1 0 0: the opening table, as the masks of its cells and as values
   pub opened : candidates_shown (opening (three 1 0 0 1 0 0)) ≡ candidates_shown (table_of 3 (20 ∷ 18 ∷ 24 ∷ 6 ∷ 60 ∷ 56 ∷ 36 ∷ 44 ∷ 42 ∷ []))
@@ -46,7 +47,7 @@ pub facts : TableFacts
 unfolding
     span sum all any count in_front ways keep join
     digits lawful until_black inside line_sum meets keeps_line cell row column line lines target keeps rejects grids
-    subsets subsets_with from_starts insides outsides arrangements three
+    subsets mask_of printed_before printed subsets_with sort insert from_starts insides outsides arrangements three
     places first_black half every_value own fits left bit_of has_bit table_of place allows
     struck strikes taken marked marked_all lays lies opening first read_cell read_off candidates_shown
-facts = record { arrangements_3 = refl; arrangements_9 = refl; arrangements_most = refl; subsets_order = refl; opened = refl; taken_digit = refl; taken_left = refl; taken_lower = refl; left_after = refl; read = refl }
+facts = record { arrangements_3 = refl; arrangements_9 = refl; arrangements_most = refl; printed_order = refl; subsets_order = refl; opened = refl; taken_digit = refl; taken_left = refl; taken_lower = refl; left_after = refl; read = refl }

@@ -1,10 +1,10 @@
 -- Arrangements of a line: where its blacks stand, and which digits lie between or around them; and closed tables: the four points. Assumes nothing.
 use Rattle.std.specs.Prelude.{ℕ, suc, ◌+◌, ◌-◌, ◌<◌, ◌≡◌, ◌≢◌, Bool, true, false, ◌&&◌, ◌||◌, cond, eqb, ltb, leb, length}
 use mathlib.Core.List.{List, [], ◌∷◌, ◌++◌, map, Memᴰ}
-use Rattle.tally.specs.Tally.{span, sum, keep, any, join}
+use Rattle.tally.specs.Tally.{span, sum, keep, any, join, sort}
 use Rattle.rules.specs.Grid.{digits, meets, Line, lines, Puzzle, target}
 use Rattle.rules.specs.Mark.{left_black, right_black, upper_black, lower_black}
-use Rattle.table.specs.Table.{Table, places, first_black, half}
+use Rattle.table.specs.Table.{Table, places, first_black, half, mask_of}
 
 -- ---- arrangements
 
@@ -13,9 +13,19 @@ unfoldable pub subsets : List ℕ → List (List ℕ)
 subsets [] = [] ∷ []
 subsets (d ∷ ds) = join (map (λ s. s ∷ (d ∷ s) ∷ []) (subsets ds))
 
--- The subsets of the digits of size n whose sum passes a test, by rising size, then by rising mask.
+-- A set of digits is printed before another: its sum is smaller, or the sums are equal and its size is, or the sizes are equal too and its mask is.
+unfoldable pub printed_before : List ℕ → List ℕ → Bool
+printed_before r s =
+    ltb (sum r) (sum s)
+    || (eqb (sum r) (sum s) && (ltb (length r) (length s) || (eqb (length r) (length s) && ltb (mask_of r) (mask_of s))))
+
+-- The subsets of the digits of size n, as they are printed.
+unfoldable pub printed : ℕ → List (List ℕ)
+printed n = sort printed_before (subsets (digits n))
+
+-- Those whose sum passes a test.
 unfoldable pub subsets_with : ℕ → (ℕ → Bool) → List (List ℕ)
-subsets_with n ok = join (map (λ k. keep (λ s. eqb (length s) k && ok (sum s)) (subsets (digits n))) (span 0 (n - 1)))
+subsets_with n ok = keep (λ s. ok (sum s)) (printed n)
 
 -- An arrangement: from its start on a black, as many cells as the set has digits, and a black, wrapping at the line's end.
 pub record Arrangement : Type 0 where

@@ -1,6 +1,6 @@
 -- Candidate tables: which values a cell may still have, and which grids fit. Assumes nothing.
-use Rattle.std.specs.Prelude.{ℕ, suc, ◌+◌, ◌-◌, ◌/◌, ◌%◌, ◌^◌, Bool, ◌&&◌, cond, ◌||◌, List, [], ◌∷◌, ◌++◌, eqb, ltb, leb, length, get_or, take}
-use Rattle.tally.specs.Tally.{span, all, count}
+use Rattle.std.specs.Prelude.{ℕ, suc, ◌+◌, ◌-◌, ◌/◌, ◌%◌, ◌^◌, Bool, ◌&&◌, cond, ◌||◌, List, [], ◌∷◌, ◌++◌, map, eqb, ltb, leb, length, get_or, take}
+use Rattle.tally.specs.Tally.{span, all, count, sum}
 use Rattle.rules.specs.Grid.{is_black, digits, Line, across, down, line, lines, cell, Puzzle, keeps}
 use Rattle.rules.specs.Mark.{left_black, upper_black, marks_of}
 use Rattle.rules.specs.Number.{grids}
@@ -56,6 +56,10 @@ left p t = count (λ g. keeps p g && fits p.size t g) (grids p.size)
 -- The bit of a value: digit d is bit d, the blacks 8 to 11 are bits n - 1 to n + 2.
 unfoldable pub bit_of : ℕ → ℕ → ℕ
 bit_of n v = cond (ltb v 8) v (n + v - 9)
+
+-- The mask of a list of different values: bit v for each value v.
+unfoldable pub mask_of : List ℕ → ℕ
+mask_of vs = sum (map (λ v. 2 ^ v) vs)
 
 -- The mask m has bit b.
 unfoldable pub has_bit : ℕ → ℕ → Bool

@@ -3,7 +3,7 @@ use Prim.Native.Nat.{ℕ, suc, ◌+◌, ◌<◌}
 use mathlib.Core.Path.{◌≡◌, refl, sym, ap, ◌∙◌, subst}
 use mathlib.Core.Bool.{Bool, true, false, not, ◌&&◌, cond}
 use mathlib.Core.Logic.{◌⊎◌, inl, inr, ⊎_elim}
-use mathlib.Core.List.{List, [], ◌∷◌, ◌++◌, Memᴰ}
+use mathlib.Core.List.{List, [], ◌∷◌, ◌++◌, map, Memᴰ}
 use mathlib.Core.List.Memᴰ
 use native.Mathlib.Omega.{arith}
 use lib.ListN.{length}
@@ -64,6 +64,16 @@ module _ {A : Type 0} where
       go : (b : Bool) (l k : List A) → keep q l ≡ k → keep q (cond b (x ∷ l) l) ≡ cond (b && q x) (x ∷ k) k
       go true l k e = ap (λ y. cond (q x) (x ∷ y) y) e
       go false l k e = e
+
+  pub keep_map : {B : Type 0} (q : B → Bool) (f : A → B) (xs : List A) → keep q (map f xs) ≡ map f (keep (λ x. q (f x)) xs)
+  unfolding keep
+  keep_map q f [] = refl
+  keep_map q f (x ∷ xs) = go (q (f x)) (keep_map q f xs)
+    where
+      go : (b : Bool) → keep q (map f xs) ≡ map f (keep (λ x. q (f x)) xs) →
+          cond b (f x ∷ keep q (map f xs)) (keep q (map f xs)) ≡ map f (cond b (x ∷ keep (λ x. q (f x)) xs) (keep (λ x. q (f x)) xs))
+      go true e = ap (λ l. f x ∷ l) e
+      go false e = e
 
   pub length_keep : (p : A → Bool) (xs : List A) → length (keep p xs) ≡ count p xs
   unfolding keep count

@@ -12,9 +12,8 @@ use Rattle.tally.proofs.WayLaws.{all_each}
 use Rattle.rules.specs.Grid.{digits}
 use Rattle.rules.proofs.SizeLaws.{at_size}
 use Rattle.rules.specs.Size.{Size}
-use Rattle.table.specs.Table.{half, every_value}
+use Rattle.table.specs.Table.{half, every_value, mask_of}
 use Rattle.bits.specs.Bit.{bit}
-use Rattle.value.specs.Mask.{mask_of}
 
 by_size : (f g : ℕ → ℕ) → all (λ n. eqb (f n) (g n)) (span 2 8) ≡ true → (n : ℕ) → Size n → f n ≡ g n
 by_size f g t n s = eqb-true (f n) (g n) (at_size (λ n. eqb (f n) (g n)) t n s)

@@ -1,11 +1,6 @@
 -- Candidate masks: the bits of some values. Assumes nothing.
-use Rattle.std.specs.Prelude.{ℕ, ◌-◌, ◌^◌, ◌<◌, ◌≡◌, List, map}
-use Rattle.tally.specs.Tally.{sum}
+use Rattle.std.specs.Prelude.{ℕ, ◌-◌, ◌^◌, ◌<◌, ◌≡◌}
 use Rattle.bits.specs.Bit.{bit}
-
--- The mask of a list of different values: bit v for each value v.
-unfoldable pub mask_of : List ℕ → ℕ
-mask_of vs = sum (map (λ v. 2 ^ v) vs)
 
 -- v is the lowest bit of the mask m, and rest is the mask of the others.
 pub record LowestOf (m v rest : ℕ) : Type 0 where

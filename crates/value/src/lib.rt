@@ -7,8 +7,7 @@ ghost use Rattle.std.specs.Prelude.{◌≡◌, ◌+◌, ◌*◌, ◌/◌, ◌%�
 ghost use Rattle.std.specs.Iterator.{at_most};
 ghost use Rattle.rules.specs.Grid.{digits};
 ghost use Rattle.rules.specs.Check.{named};
-ghost use Rattle.table.specs.Table.{every_value};
-ghost use Rattle.value.specs.Mask.{mask_of};
+ghost use Rattle.table.specs.Table.{every_value, mask_of};
 ghost use Rattle.value.specs.Walk.{LowestFirst};
 
 use grid_size::GridSize;

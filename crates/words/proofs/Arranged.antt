@@ -14,7 +14,8 @@ use Rattle.bits.specs.Bit.{bit}
 use Rattle.bits.proofs.BitLaws.{bit_zero}
 use Rattle.table.specs.Closed.{place, allows}
 use Rattle.rules.specs.Size.{Size}
-use Rattle.words.specs.Word.{mask_in, size_in, digits_of, arrangement_of, Known, word_of, pattern, inner_of, from_of, to_of, steps}
+use Rattle.subset_table.specs.Subsets.{mask_in, size_in}
+use Rattle.words.specs.Word.{digits_of, arrangement_of, Known, word_of, pattern, inner_of, from_of, to_of, steps}
 use Rattle.words.proofs.WordFacts.{subset_size, mask_even}
 use Rattle.words.proofs.StepLaws.{steps_on, steps_back, steps_none, steps_same, steps_lt}
 use Rattle.words.proofs.PatternLaws.{pattern_head, pattern_last, pattern_inner, pattern_inner_black}

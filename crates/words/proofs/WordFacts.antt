@@ -6,14 +6,15 @@ use native.Mathlib.Omega.{arith}
 use lib.Dec.{eqb, ltb, leb}
 use lib.ListN.{length}
 use borrow.Author.Tests.{eqb-true, leb-true, ltb-true, lt-ltb, le-ltb, le-leb, lt-leb}
-use Rattle.tally.specs.Tally.{span, all, keep, sum}
+use Rattle.tally.specs.Tally.{span, all, keep, count}
 use Rattle.tally.proofs.TallyLaws.{span_mem, and_left, and_right}
 use Rattle.tally.proofs.WayLaws.{all_each}
 use Rattle.bits.specs.Bit.{bit}
 use Rattle.rules.proofs.SizeLaws.{at_size}
 use Rattle.rules.specs.Size.{Size}
 use Rattle.rules.specs.Check.{max_target}
-use Rattle.words.specs.Word.{subset_table, subset, sum_table, from_sum, mask_in, sum_in, size_in, digits_of, inner_places, steps}
+use Rattle.subset_table.specs.Subsets.{subset, from_sum, mask_in, size_in, of_size}
+use Rattle.words.specs.Word.{digits_of, inner_places, steps}
 
 -- a test that is computed at each number of a span
 at : (q : ℕ → Bool) (a k x : ℕ) → a ≤ x → x < a + k → all q (span a k) ≡ true → q x ≡ true
@@ -21,27 +22,27 @@ at q a k x h l t = all_each q (span_mem a k x h l) t
 
 -- ---- the subsets
 
--- the table's fields are those of its masks, and no mask has bit 0
+-- the sizes of the table are those of its masks read bit by bit, as the words have them, and these are bits 1 to 7
 subset_test : ℕ → Bool
-subset_test s = eqb (length (digits_of (mask_in s))) (size_in s) && (eqb (sum (digits_of (mask_in s))) (sum_in s) && eqb (mask_in s % 2) 0)
+subset_test s = eqb (length (digits_of (mask_in s))) (size_in s) && (eqb (mask_in s % 2) 0 && ltb (mask_in s) 256)
 
 subset_tests : all subset_test (span 0 128) ≡ true
-unfolding subset_test subset_table subset digits_of span all keep sum bit
+unfolding subset_test subset digits_of span all keep bit
 subset_tests = refl
 
 fit_test : ℕ → ℕ → Bool
-fit_test s n = cond (ltb (mask_in s) (2 ^ (n - 1))) (leb (size_in s + 2) n) true
+fit_test s n = cond (of_size n (subset s)) (leb (size_in s + 2) n) true
 
 fit_tests : all (λ s. all (fit_test s) (span 2 8)) (span 0 128) ≡ true
-unfolding fit_test subset_table subset span all
+unfolding fit_test of_size subset span all
 fit_tests = refl
 
 -- the subsets of a size's digits stand before those of a greater sum than the digits have
 end_test : ℕ → ℕ → Bool
-end_test s n = cond (ltb (mask_in s) (2 ^ (n - 1))) (ltb s (from_sum (max_target n + 1))) true
+end_test s n = cond (of_size n (subset s)) (ltb s (from_sum (max_target n + 1))) true
 
 end_tests : all (λ s. all (end_test s) (span 2 8)) (span 0 128) ≡ true
-unfolding end_test subset_table subset from_sum sum_table max_target span all
+unfolding end_test of_size subset from_sum max_target count span all
 end_tests = refl
 
 most_tests : all (λ n. ltb (max_target n + 1) 30) (span 2 8) ≡ true
@@ -49,7 +50,7 @@ unfolding max_target span all
 most_tests = refl
 
 sum_tests : all (λ k. leb (from_sum k) 128) (span 0 30) ≡ true
-unfolding from_sum sum_table span all
+unfolding from_sum count span all
 sum_tests = refl
 
 ring_test : ℕ → ℕ → ℕ → ℕ → Bool
@@ -70,29 +71,34 @@ module _ (s : ℕ) (h : s < 128) where
   unfolding subset_test
   subset_size = eqb-true _ _ (and_left _ _ tested)
 
-  pub subset_sum : sum (digits_of (mask_in s)) ≡ sum_in s
-  unfolding subset_test
-  subset_sum = eqb-true _ _ (and_left _ _ (and_right (eqb (length (digits_of (mask_in s))) (size_in s)) _ tested))
-
   pub mask_even : mask_in s % 2 ≡ 0
   unfolding subset_test
-  mask_even = eqb-true _ _ (and_right (eqb (sum (digits_of (mask_in s))) (sum_in s)) _ (and_right (eqb (length (digits_of (mask_in s))) (size_in s)) _ tested))
+  mask_even = eqb-true _ _ (and_left _ _ (and_right (eqb (length (digits_of (mask_in s))) (size_in s)) _ tested))
+
+  pub mask_small : mask_in s < 256
+  unfolding subset_test
+  mask_small = ltb-true _ _ (and_right (eqb (mask_in s % 2) 0) _ (and_right (eqb (length (digits_of (mask_in s))) (size_in s)) _ tested))
 
   -- a subset of the digits of size n leaves room for two blacks
-  pub subset_fits : (n : ℕ) → Size n → mask_in s < 2 ^ (n - 1) → size_in s + 2 ≤ n
+  pub subset_fits : (n : ℕ) → Size n → of_size n (subset s) ≡ true → size_in s + 2 ≤ n
   unfolding fit_test
   subset_fits n z m =
       let t = at (λ s. all (fit_test s) (span 2 8)) 0 128 s (omega arith) (omega arith) fit_tests in
       let u = at_size (fit_test s) t n z in
-      leb-true (size_in s + 2) n (rw (lt-ltb (mask_in s) (2 ^ (n - 1)) m) at u)
+      leb-true (size_in s + 2) n (rw m at u)
 
   -- and stands before those of a greater sum than all its digits have
-  pub subset_before : (n : ℕ) → Size n → mask_in s < 2 ^ (n - 1) → s < from_sum (max_target n + 1)
+  pub subset_before : (n : ℕ) → Size n → of_size n (subset s) ≡ true → s < from_sum (max_target n + 1)
   unfolding end_test
   subset_before n z m =
       let t = at (λ s. all (end_test s) (span 2 8)) 0 128 s (omega arith) (omega arith) end_tests in
       let u = at_size (end_test s) t n z in
-      ltb-true s (from_sum (max_target n + 1)) (rw (lt-ltb (mask_in s) (2 ^ (n - 1)) m) at u)
+      ltb-true s (from_sum (max_target n + 1)) (rw m at u)
+
+-- the mask of a subset of the digits of size n
+pub mask_below : (s n : ℕ) → of_size n (subset s) ≡ true → mask_in s < 2 ^ (n - 1)
+unfolding of_size
+mask_below s n m = ltb-true _ _ m
 
 pub most_sum : (n : ℕ) → Size n → max_target n + 1 < 30
 most_sum n z = ltb-true (max_target n + 1) 30 (at_size (λ n. ltb (max_target n + 1) 30) most_tests n z)

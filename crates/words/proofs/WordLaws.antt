@@ -9,8 +9,9 @@ use lib.Dec.{ltb}
 use borrow.Author.Tests.{lt-ltb, le-ltb, eq-eqb, ne_eqb}
 use Rattle.bits.specs.Bit.{bit}
 use Rattle.rules.specs.Size.{Size}
-use Rattle.words.specs.Word.{mask_in, size_in, Known, set_of, inner_of, first_of, second_of, outside_of, inner_places, word_from, word_of, from_of, to_of, head_of, last_of, steps, Shaped}
-use Rattle.words.proofs.WordFacts.{subset_fits, inner_small, inner_between, inner_start, inner_far, inner_past}
+use Rattle.subset_table.specs.Subsets.{mask_in, size_in}
+use Rattle.words.specs.Word.{Known, set_of, inner_of, first_of, second_of, outside_of, inner_places, word_from, word_of, from_of, to_of, head_of, last_of, steps, Shaped}
+use Rattle.words.proofs.WordFacts.{subset_fits, mask_small, inner_small, inner_between, inner_start, inner_far, inner_past}
 use Rattle.words.proofs.StepLaws.{steps_on, steps_back}
 
 -- the place of the last end
@@ -113,7 +114,7 @@ module _ (n id : ℕ) (z : Size n) (y : Known n id) where
 
   pub known_fields : Fields n (mask_in (id / 9)) (size_in (id / 9)) (id % 9) (word_of n id)
   unfolding word_of
-  known_fields = word_fields n (mask_in (id / 9)) (size_in (id / 9)) (id % 9) z (omega arith) known_fits y.starts
+  known_fields = word_fields n (mask_in (id / 9)) (size_in (id / 9)) (id % 9) z (mask_small (id / 9) known_subset) known_fits y.starts
 
   pub known_steps : steps n (from_of (word_of n id)) (to_of (word_of n id)) ≡ size_in (id / 9) + 1
   known_steps = rw (known_fields.from_is, known_fields.to_is) (ending_steps n (size_in (id / 9)) (id % 9) known_fits y.starts)

@@ -1,12 +1,12 @@
 -- Filling the list of words, subset by subset. Assumes nothing.
-use Rattle.std.specs.Prelude.{ℕ, ◌+◌, ◌-◌, ◌*◌, ◌%◌, ◌^◌, ◌≤◌, ◌<◌, ◌≡◌, List, length, get_or}
-use Rattle.words.specs.Word.{subset, word_of}
+use Rattle.std.specs.Prelude.{ℕ, ◌+◌, ◌-◌, ◌*◌, ◌^◌, ◌≤◌, ◌<◌, ◌≡◌, List, length, get_or, true}
+use Rattle.subset_table.specs.Subsets.{subset, of_size}
+use Rattle.words.specs.Word.{word_of}
 
--- subset s is one of the digits of size n, and x is its code
-pub record FillAsk (n s x : ℕ) (ws : List ℕ) : Type 0 where
+-- the digits of subset s are of size n
+pub record FillAsk (n s : ℕ) (ws : List ℕ) : Type 0 where
   pub among : s < 128
-  pub code : x ≡ subset s
-  pub digits : x % 256 < 2 ^ (n - 1)
+  pub digits : of_size n (subset s) ≡ true
   pub long : length ws ≡ 1152
 
 -- the words of subset s from start 0 to start k - 1 are there, and those of the subsets before it stay

@@ -1,44 +1,9 @@
--- Subsets of digits in one table, arrangements by number, and an arrangement packed into one word. Assumes nothing.
-use Rattle.std.specs.Prelude.{ℕ, suc, ◌+◌, ◌-◌, ◌*◌, ◌/◌, ◌%◌, ◌^◌, ◌≤◌, ◌<◌, ◌≡◌, Bool, ◌&&◌, cond, List, [], ◌∷◌, ◌⊎◌, eqb, ltb, leb, length, get_or}
+-- Arrangements by number, and an arrangement packed into one word. Assumes nothing.
+use Rattle.std.specs.Prelude.{ℕ, suc, ◌+◌, ◌-◌, ◌*◌, ◌/◌, ◌%◌, ◌^◌, ◌≤◌, ◌<◌, ◌≡◌, Bool, ◌&&◌, cond, List, ◌⊎◌, eqb, ltb, leb, length, get_or, true}
 use Rattle.tally.specs.Tally.{span, keep}
+use Rattle.subset_table.specs.Subsets.{subset, mask_in, size_in, of_size}
 use Rattle.table.specs.Closed.{Arrangement}
 use Rattle.bits.specs.Bit.{bit}
-
--- ---- the subsets of the digits 1 to 7
-
--- Each subset as mask + sum * 256 + size * 8192, ordered by sum, then size, then mask; digit d is bit d of the mask.
-unfoldable pub subset_table : List ℕ
-subset_table =
-    0 ∷ 8450 ∷ 8708 ∷ 8968 ∷ 17158 ∷ 9232 ∷ 17418 ∷ 9504 ∷ 17676 ∷ 17682 ∷ 9792 ∷ 17940 ∷ 17954 ∷ 26126 ∷ 10112 ∷ 18200 ∷ 18212 ∷ 18242 ∷ 26390 ∷
-    18472 ∷ 18500 ∷ 18562 ∷ 26650 ∷ 26662 ∷ 18736 ∷ 18760 ∷ 18820 ∷ 26908 ∷ 26922 ∷ 26950 ∷ 19024 ∷ 19080 ∷ 27180 ∷ 27186 ∷ 27210 ∷ 27270 ∷ 35358 ∷
-    19296 ∷ 19344 ∷ 27444 ∷ 27468 ∷ 27474 ∷ 27530 ∷ 35630 ∷ 19616 ∷ 27704 ∷ 27732 ∷ 27746 ∷ 27788 ∷ 27794 ∷ 35894 ∷ 35918 ∷ 19904 ∷ 27992 ∷ 28004 ∷
-    28052 ∷ 28066 ∷ 36154 ∷ 36182 ∷ 36238 ∷ 28264 ∷ 28312 ∷ 28324 ∷ 28354 ∷ 36412 ∷ 36442 ∷ 36454 ∷ 36502 ∷ 28528 ∷ 28584 ∷ 28612 ∷ 36700 ∷ 36714 ∷
-    36762 ∷ 36774 ∷ 44862 ∷ 28848 ∷ 28872 ∷ 36972 ∷ 36978 ∷ 37020 ∷ 37034 ∷ 37062 ∷ 45150 ∷ 29136 ∷ 37236 ∷ 37292 ∷ 37298 ∷ 37322 ∷ 45422 ∷ 45470 ∷
-    29408 ∷ 37496 ∷ 37556 ∷ 37580 ∷ 37586 ∷ 45686 ∷ 45742 ∷ 37816 ∷ 37844 ∷ 37858 ∷ 45946 ∷ 46006 ∷ 46030 ∷ 38104 ∷ 38116 ∷ 46204 ∷ 46266 ∷ 46294 ∷
-    38376 ∷ 46524 ∷ 46554 ∷ 46566 ∷ 54654 ∷ 38640 ∷ 46812 ∷ 46826 ∷ 54974 ∷ 47084 ∷ 47090 ∷ 55262 ∷ 47348 ∷ 55534 ∷ 47608 ∷ 55798 ∷ 56058 ∷ 56316 ∷
-    64766 ∷ []
-
--- Subset s, and its mask, sum and size.
-unfoldable pub subset : ℕ → ℕ
-subset s = get_or subset_table s 0
-
-abbrev pub mask_in : ℕ → ℕ
-mask_in s = subset s % 256
-
-abbrev pub sum_in : ℕ → ℕ
-sum_in s = subset s / 256 % 32
-
-abbrev pub size_in : ℕ → ℕ
-size_in s = subset s / 8192
-
--- Where the subsets of each sum from 0 to 28 begin, and where the last ends.
-unfoldable pub sum_table : List ℕ
-sum_table =
-    0 ∷ 1 ∷ 2 ∷ 3 ∷ 5 ∷ 7 ∷ 10 ∷ 14 ∷ 19 ∷ 24 ∷ 30 ∷ 37 ∷ 44 ∷ 52 ∷ 60 ∷ 68 ∷ 76 ∷ 84 ∷ 91 ∷ 98 ∷ 104 ∷ 109 ∷ 114 ∷ 118 ∷ 121 ∷ 123 ∷ 125 ∷ 126 ∷ 127 ∷ 128 ∷ []
-
--- Where those of sum k begin.
-unfoldable pub from_sum : ℕ → ℕ
-from_sum k = get_or sum_table k 0
 
 -- The digits of a mask, rising.
 unfoldable pub digits_of : ℕ → List ℕ
@@ -55,7 +20,7 @@ arrangement_of n id =
 pub record Known (n id : ℕ) : Type 0 where
   pub within : id < 1152
   pub starts : id % 9 < n
-  pub digits : mask_in (id / 9) < 2 ^ (n - 1)
+  pub digits : of_size n (subset (id / 9)) ≡ true
 
 -- ---- words: the set in bits 0 to 7, the inner places in 8 to 16, the places of the line's first and second black in 17 to 20 and 21 to 24, and 1 at bit
 -- 25 if the cells lie outside the blacks, so that the arrangement begins with the second one

@@ -4,21 +4,21 @@ use Rattle.backtrack.proofs.advance.Goals as goal
 
 pub returns-then-is_err : goal.returns-then-is_err
 returns-then-is_err c =
-    advance_none c.requires.ready.size.high
+    advance_none c.requires.ready.size
     c.if-is_err.ensures.negation c.propagate.ensures
 
 pub invariant_of-pick_branch : goal.invariant_of-pick_branch
 invariant_of-pick_branch c =
-    record { ready = advance_ready c.requires.ready.size.high c.if-is_err.ensures.negation c.propagate.ensures }
+    record { ready = advance_ready c.requires.ready.size c.if-is_err.ensures.negation c.propagate.ensures }
 
 pub returns-in-Some : goal.returns-in-Some
 returns-in-Some c =
     let pre = c.requires in
     let b = c.in-Some.ensures in
-    advance_branch pre.ready.size.high c.if-is_err.ensures.negation c.propagate.ensures b
+    advance_branch pre.ready.size c.if-is_err.ensures.negation c.propagate.ensures b
 
 pub returns-in-None : goal.returns-in-None
 returns-in-None c =
     let pre = c.requires in
-    advance_one pre.ready.size.high c.if-is_err.ensures.negation
+    advance_one pre.ready.size c.if-is_err.ensures.negation
     c.propagate.ensures c.in-None.ensures

@@ -1,6 +1,6 @@
 -- What holds in the loop of `listing::list_side`.
 use Prim.Native.Nat.{◌+◌}
-use Rattle.words.specs.Word.{from_sum}
+use Rattle.subset_table.specs.Subsets.{from_sum}
 use Rattle.listing.specs.Sides.{is_outside}
 use Rattle.listing.specs.Listing.{Adding}
 use Rattle.listing.specs.Numbers.{side_from, side_of}

@@ -1,7 +1,7 @@
 -- What holds in the loop of `listing::list_starts`.
 use Prim.Native.Nat.{◌≤◌}
 use mathlib.Core.Path.{◌≡◌}
-use Rattle.words.specs.Word.{size_in}
+use Rattle.subset_table.specs.Subsets.{size_in}
 use Rattle.listing.specs.Sides.{is_outside}
 use Rattle.listing.specs.Listing.{Adding}
 use Rattle.listing.specs.Numbers.{starts_from}

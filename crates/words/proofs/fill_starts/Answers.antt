@@ -6,9 +6,8 @@ use Rattle.words.proofs.fill_starts.Goals as goal
 pub word-requires : goal.word-requires
 word-requires c =
     let a = c.requires in
-    (omega arith, omega (arith, fill_room c.args.size.fits a), c.loop-start-test.true)
+    (omega arith, omega (arith, fill_room c.args.size.fits a c.numbered-subset.ensures), c.loop-start-test.true)
 
 pub loop-start-preserved : goal.loop-start-preserved
 loop-start-preserved c =
-    let e = rw c.from-set.ensures at c.word.ensures in
-    filling_next c.args.size.fits c.requires _ _ _ _ c.from-len.ensures c.loop-start-test.true e c.loop-start.invariant
+    filling_next c.args.size.fits c.requires c.numbered-subset.ensures _ _ _ _ _ c.from-set.ensures c.from-len.ensures c.loop-start-test.true c.word.ensures c.loop-start.invariant
