@@ -1,4 +1,4 @@
-/* Preloaded by tests/sheet: every other call of read and write is interrupted before it moves a byte, and a write takes at most 7 bytes. */
+/* Preloaded by tests/sheet and tests/subsets: every other call of read and write is interrupted before it moves a byte, and a write takes at most 7 bytes. */
 #define _GNU_SOURCE
 #include <errno.h>
 #include <sys/syscall.h>

@@ -1,6 +1,6 @@
 //! Takes the published files from docs/src, refuses to build if a byte of them
-//! changed, and hands copies to the compiler. One copy gets an addition: a
-//! reader for the private candidate table.
+//! changed, and hands copies to the compiler. Two copies get an addition: a
+//! reader for the private candidate table, and one for the private subsets.
 
 #[path = "sha256.rs"]
 mod sha256;
@@ -11,13 +11,22 @@ use std::{env, fs, process};
 /// What the calls under comparison need; the other solvers are not built.
 const MODULES: [&str; 5] = ["backtrack", "grid", "queue_solver", "recorder", "solver"];
 
-const READER: &str = "
+const TABLE_READER: &str = "
 // ── Added by oracle/rublock/build.rs; not part of the published file ──────────
 
 impl<const N: usize, R: Recorder> QueueSolverState<N, R> {
     pub fn domains(&self) -> &[[CellDomain; N]; N] {
         &self.domains
     }
+}
+";
+
+const SUBSET_READER: &str = "
+// ── Added by oracle/rublock/build.rs; not part of the published file ──────────
+
+/// The size and the mask of each set of digits with this sum, as they are visited.
+pub fn subsets_of_sum(num_digits: usize, sum: usize) -> Vec<(usize, CellDomain)> {
+    Tables::build(num_digits).valid_tuples_for_target(sum).collect()
 }
 ";
 
@@ -56,8 +65,10 @@ fn copy(published: &Path, out: &Path) -> Result<(), String> {
     let mut modules = String::new();
     for name in MODULES {
         let mut text = read(&published.join(format!("src/{name}.rs")))?;
-        if name == "queue_solver" {
-            text.push_str(READER);
+        match name {
+            "queue_solver" => text.push_str(TABLE_READER),
+            "solver" => text.push_str(SUBSET_READER),
+            _ => {}
         }
         let copy = out.join(format!("{name}.rs"));
         write(&copy, &text)?;

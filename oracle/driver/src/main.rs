@@ -1,12 +1,13 @@
 //! `driver` answers the lines of standard input as `sheet` does; `driver check LINES
 //! ANSWERS` says of the answers in a file whether they are right; `driver lines SEED
-//! COUNT` writes lines.
+//! COUNT` writes lines; `driver subsets` prints the subsets as `subsets` does.
 
 use std::io::{self, BufWriter, Write};
 use std::process::ExitCode;
 use std::{env, fs};
 
-const USAGE: &str = "usage: driver | driver check LINES ANSWERS | driver lines SEED COUNT";
+const USAGE: &str =
+    "usage: driver | driver check LINES ANSWERS | driver lines SEED COUNT | driver subsets";
 
 fn main() -> ExitCode {
     let words: Vec<String> = env::args().skip(1).collect();
@@ -27,6 +28,7 @@ enum Task {
     Answer,
     Check { lines: String, answers: String },
     Lines { seed: u64, count: usize },
+    Subsets,
 }
 
 fn task(words: &[String]) -> Option<Task> {
@@ -40,6 +42,7 @@ fn task(words: &[String]) -> Option<Task> {
             seed: seed.parse().ok()?,
             count: count.parse().ok()?,
         }),
+        [word] if word == "subsets" => Some(Task::Subsets),
         _ => None,
     }
 }
@@ -51,6 +54,7 @@ fn run(task: &Task) -> io::Result<ExitCode> {
         }
         Task::Check { lines, answers } => return check(&fs::read(lines)?, &fs::read(answers)?),
         Task::Lines { seed, count } => io::stdout().write_all(&inputs::stream(*seed, *count))?,
+        Task::Subsets => io::stdout().write_all(rules::printed_subsets().as_bytes())?,
     }
     Ok(ExitCode::SUCCESS)
 }

@@ -31,6 +31,7 @@ mod draw;
 mod limit;
 mod marking;
 mod solver;
+mod subsets;
 mod sums;
 
 pub use draw::random_grid;
@@ -40,4 +41,5 @@ pub use solver::{
     ReadySolver, Solved, accepts, candidates, count, count_within, opens, ready_solver, solve,
     solve_within,
 };
+pub use subsets::subsets_of_sum;
 pub use sums::{ReadyGrid, overflow_is_checked, ready_grid, target_sums};
