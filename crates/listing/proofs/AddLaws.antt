@@ -15,6 +15,7 @@ use Rattle.tally.proofs.TallyLaws.{sum_append, span_length}
 use Rattle.rules.proofs.StridedLaws.{map_next}
 use Rattle.lane.specs.declared.Lane.{Lane}
 use Rattle.rules.specs.Size.{Size}
+use Rattle.subset_table.specs.declared.Subset.{Subset}
 use Rattle.subset_table.specs.Subsets.{subset, of_size, size_in, from_sum}
 use Rattle.words.specs.Word.{Known, Shaped, word_of, part, on_side}
 use Rattle.words.proofs.WordFacts.{subset_fits, from_sum_most}
@@ -219,7 +220,11 @@ module _ (f : ℕ → List ℕ) (ok : ℕ → Bool) (a m : ℕ) {lane : Lane} {l
   scan_done h = adding_end (rw (scan_end f ok m a h) at d)
 
 -- the starts of a subset that are on the side
-module _ (lane : Lane) {outside : Bool} {len : ℕ} {starts : Range ℕ} (s : ℕ) (r : StartsAre lane.len len outside starts) (f : len ≡ size_in s) where
+module _ (lane : Lane) {outside : Bool} {len : ℕ} {starts : Range ℕ} {x : Subset} (s : ℕ) (r : StartsAre lane.len len outside starts) (same : x ≡ subset s)
+    (long : len ≡ x.size) where
+  f : len ≡ size_in s
+  f = long ∙ ap (λ y. y.size) same
+
   on : (i : ℕ) → starts.start ≤ i → i < starts.end → on_side lane.len outside (i + size_in s + 2) ≡ true
   on i g h = rw f at ((r.exact i (omega (arith, r.within))).1 (g, h))
 

@@ -61,7 +61,10 @@ listable p f =
 
 -- ---- one line: the inside ones, then the outside ones
 
-module _ {lane : Lane} (z : Size lane.len) {l : List ℕ} (t m : ℕ) (e : m ≡ max_target lane.len) (a : AddAsk lane l (numbers_for lane.len t)) where
+module _ {lane : Lane} {n : ℕ} (z : Size lane.len) (same : n ≡ lane.len) {l : List ℕ} (t m : ℕ) (told : m ≡ max_target n) (a : AddAsk lane l (numbers_for lane.len t)) where
+  e : m ≡ max_target lane.len
+  e = told ∙ ap max_target same
+
   most : m ≤ 28
   most = omega (arith, e, target_most lane.len z)
 
