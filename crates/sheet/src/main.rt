@@ -63,10 +63,10 @@ pub fn run<R: Read, W: Write>(reader: &mut R, writer: &mut W) -> Result<(), Fail
         let n = read_some(reader, &mut block).map_err(Failure::Read)?;
         out.clear();
         if n == 0 {
-            stream.end(&mut out);
+            stream.append_last(&mut out);
             return write_out(writer, &out).map_err(Failure::Write);
         }
-        stream.feed(&block[..n], &mut out);
+        stream.append_answers(&block[..n], &mut out);
         write_out(writer, &out).map_err(Failure::Write)?;
     }
     Err(Failure::Read(io::Error::from(ErrorKind::TimedOut)))

@@ -1,5 +1,5 @@
 -- Bytes fed one after the other, and the stream value from block to block. Assumes nothing.
-use Rattle.std.proofs.Common.{ℕ, suc, ◌+◌, ◌-◌, ◌*◌, ◌≤◌, ◌<◌, ◌≡◌, refl, sym, ap, subst, ◌∙◌, Bool, true, false, not, cond, List, [], ◌∷◌, ◌++◌, append_assoc, append-nil, length, take, drop, length-append, Some, None, Result, IsOk, arith, add-one}
+use Rattle.std.proofs.Common.{ℕ, suc, ◌+◌, ◌-◌, ◌*◌, ◌≤◌, ◌<◌, ◌≡◌, refl, sym, ap, subst, ◌∙◌, Bool, true, false, not, cond, min, List, [], ◌∷◌, ◌++◌, append_assoc, append-nil, length, take, drop, length-append, Some, None, Result, IsOk, arith, add-one}
 use Rattle.std.proofs.lemmas.Bool.{false≢true}
 use Rattle.std.proofs.lemmas.List.{take-append-drop, take_rest}
 use Rattle.std.proofs.lemmas.List.Quantifiers.{position-Some}
@@ -7,14 +7,16 @@ use Rattle.std.specs.List.{position, position_or_len}
 use native.Mathlib.Decide.{dec_lt}
 use lib.Dec.{eqb, ltb}
 use lib.ListN.{length-take}
-use lib.Seq.{take_all, take-append-le, take-append-add, drop-cons}
+use lib.Seq.{take_all, take-append-le, take-append-add, length-take-le, drop-cons}
 use borrow.Author.Tests.{eq-eqb, eqb-true, lt-ltb}
 use Rattle.text_rules.specs.Answered.{Answered}
 use Rattle.text_rules.specs.Stream.{line_end, Written, nothing, byte, ended, none, last, streamed}
 use Rattle.text_line.specs.Line.{LineText, LineGiven}
 use Rattle.text_stream.specs.declared.Stream.{Stream}
-use Rattle.text_stream.specs.Fed.{Keeps, LineEnded, GoesOn}
-use Rattle.text_stream.specs.Stream.{Begun, BlockFed, LastGiven}
+use Rattle.text_stream.specs.Fed.{Keeps, LineEnded, LineClosed, GoesOn}
+use Rattle.text_stream.specs.Put.{Put}
+use Rattle.text_stream.specs.Stream.{kept_bytes, Begun, BlockFed, BlockPut, LastGiven, LastPut}
+use Rattle.text_stream.proofs.PutLaws.{put_none, put_both, put_behind}
 use Rattle.text_stream.proofs.StreamLaws.{answered_short, answered_kept, written_then}
 
 -- ---- a line end
@@ -98,9 +100,54 @@ nothing_kept : (line : List ℕ) → 0 ≡ length (take 81 line) → line ≡ []
 nothing_kept [] e = refl
 nothing_kept (b ∷ line) e = absurd (omega arith)
 
-none_in : (kept : List ℕ) → length kept ≡ 0 → kept ≡ []
-none_in [] e = refl
-none_in (b ∷ kept) e = absurd (omega arith)
+-- As many as there is room for, or all.
+taken : (xs : List ℕ) (n : ℕ) {m : ℕ} → m ≡ min (length xs) n → take m xs ≡ take n xs
+taken xs n {m} e = go (dec_lt n (length xs))
+  where
+    go : Dec (n < length xs) → take m xs ≡ take n xs
+    go (yes h) = let q : m ≡ n = omega (arith, e) in ap (λ k. take k xs) q
+    go (no h) = take_all m xs (omega (arith, e)) ∙ sym (take_all n xs (omega arith))
+
+-- They stand behind those that are kept.
+pub kept_next : (bytes kept : List ℕ) {ys : List ℕ} {k m n : ℕ} → length kept ≡ 81 → k ≤ 81 → m ≡ min (length bytes) (81 - k)
+    → Put (take m bytes) n (take (81 - k) (drop k kept)) ys
+    → take (k + n) (take k kept ++ (ys ++ drop (81 - k) (drop k kept))) ≡ take k kept ++ take (81 - length (take k kept)) bytes
+kept_next bytes kept {k = k} long h e w =
+    let front : length (take k kept) ≡ k = length-take-le k kept (omega (arith, long)) in
+    put_behind kept long h w ∙ ap (λ l. take k kept ++ l) (taken bytes (81 - k) e ∙ ap (λ i. take (81 - i) bytes) (sym front))
+
+-- ---- a line that has begun ends
+
+-- It is answered where it stands.
+pub closed_whole : {kept more out out' : List ℕ} → length kept ≡ 0 → LineEnded more out out' → LineClosed kept more out out'
+closed_whole {more = more} z v =
+    record {
+      text = v.text;
+      answers = λ begun k. subst (λ l. Answered (l ++ more) v.text) (sym (nothing_kept begun (sym z ∙ ap length k))) v.answers;
+      put = v.put;
+      most = v.most;
+    }
+
+-- It goes on with what is kept.
+pub closed_kept : {kept kept' more out out' : List ℕ} → kept' ≡ kept ++ take (81 - length kept) more → LineEnded kept' out out' → LineClosed kept more out out'
+closed_kept {more = more} is v =
+    record {
+      text = v.text;
+      answers = λ begun k. answered_kept (begun ++ more) v.text (subst (λ l. Answered l v.text) (is ∙ kept_on begun more k) v.answers);
+      put = v.put;
+      most = v.most;
+    }
+
+-- The text in a buffer of its own is to be written behind another.
+closed_behind : {kept more empty piece : List ℕ} (out : List ℕ) → empty ≡ [] → LineClosed kept more empty piece → LineClosed kept more out (out ++ piece)
+closed_behind {piece = piece} out e v =
+    let is : piece ≡ v.text ++ line_end ∷ [] = v.put ∙ ap (λ l. l ++ (v.text ++ line_end ∷ [])) e in
+    record {
+      text = v.text;
+      answers = v.answers;
+      put = ap (λ l. out ++ l) is;
+      most = omega (arith, v.most, ap length e, length-append out piece);
+    }
 
 -- ---- a block
 
@@ -122,10 +169,9 @@ feeding_start block kept out =
 
 module _ {block kept₀ out₀ rest kept out : List ℕ} (w : Feeding block kept₀ out₀ rest kept out) where
   -- A line of the block, and its end.
-  next : (i : ℕ) {l kept' out' : List ℕ} → Some i ≡ position is_end rest
-      → ((left text : List ℕ) → Keeps kept left → Answered l text → Answered (left ++ take i rest) text) → LineEnded l out out' → kept' ≡ []
+  pub feeding_next : (i : ℕ) {kept' out' : List ℕ} → Some i ≡ position is_end rest → LineClosed kept (take i rest) out out' → kept' ≡ []
       → Feeding block kept₀ out₀ (take (length rest - (i + 1)) (drop (i + 1) rest)) kept' out'
-  next i e same v empty =
+  feeding_next i e v empty =
       let line : List ℕ = take i rest in
       let at_end = position-Some is_end rest i 0 (sym e) in
       let cut : drop i rest ≡ line_end ∷ drop (i + 1) rest =
@@ -143,26 +189,14 @@ module _ {block kept₀ out₀ rest kept out : List ℕ} (w : Feeding block kept
             record {
               left = [];
               output = g.output ++ (v.text ++ line_end ∷ []);
-              writes = written_then g.writes (ended v.text (same g.left v.text g.keeps v.answers) (written_to_end g.left rest i (sym e)));
+              writes = written_then g.writes (ended v.text (v.answers g.left g.keeps) (written_to_end g.left rest i (sym e)));
               keeps = empty;
               put = v.put ∙ ap (λ l. l ++ (v.text ++ line_end ∷ [])) g.put ∙ append_assoc out₀ g.output (v.text ++ line_end ∷ []);
             };
       }
 
-  -- It is answered where it stands.
-  pub feeding_line : (i : ℕ) {out' : List ℕ} → Some i ≡ position is_end rest → length kept ≡ 0 → LineEnded (take i rest) out out'
-      → Feeding block kept₀ out₀ (take (length rest - (i + 1)) (drop (i + 1) rest)) kept out'
-  feeding_line i e z v =
-      next i e (λ left text k a. subst (λ l. Answered (l ++ take i rest) text) (sym (nothing_kept left (sym z ∙ ap length k))) a) v (none_in kept z)
-
-  -- It goes on with what is kept.
-  pub feeding_next : (i : ℕ) {kept' kept'' out' : List ℕ} → Some i ≡ position is_end rest → kept' ≡ kept ++ take (81 - length kept) (take i rest)
-      → LineEnded kept' out out' → kept'' ≡ [] → Feeding block kept₀ out₀ (take (length rest - (i + 1)) (drop (i + 1) rest)) kept'' out'
-  feeding_next i e is v empty =
-      next i e (λ left text k a. answered_kept _ text (subst (λ l. Answered l text) (is ∙ kept_on left (take i rest) k) a)) v empty
-
   -- What stands behind the last line end of the block.
-  pub feeding_end : {s s' : Stream} → s.kept.items ≡ kept₀ → None ≡ position is_end rest → s'.kept.items ≡ kept ++ take (81 - length kept) rest
+  pub feeding_end : {s s' : Stream} → kept_bytes s ≡ kept₀ → None ≡ position is_end rest → kept_bytes s' ≡ kept ++ take (81 - length kept) rest
       → BlockFed s s' block out₀ out
   feeding_end {s} {s'} is₀ e is =
       record {
@@ -177,28 +211,72 @@ module _ {block kept₀ out₀ rest kept out : List ℕ} (w : Feeding block kept
             };
       }
 
+-- ---- a block whose texts stand at the front of a buffer
+
+-- What is passed of a block is fed, and what is to be written for it stands at the front.
+pub record FeedingPut (block kept₀ out₀ rest kept : List ℕ) (n : ℕ) (out : List ℕ) : Type 0 where
+  pub text : List ℕ
+  pub feeds : Feeding block kept₀ [] rest kept text
+  pub put : Put text n out₀ out
+
+pub feeding_put_start : (block kept out : List ℕ) → FeedingPut block kept out block kept 0 out
+feeding_put_start block kept out = record { text = []; feeds = feeding_start block kept []; put = put_none out }
+
+module _ {block kept₀ out₀ rest kept : List ℕ} {n : ℕ} {out : List ℕ} (w : FeedingPut block kept₀ out₀ rest kept n out) where
+  -- A line of the block, and its end: its text, in a buffer of its own, is put behind those before.
+  pub feeding_put_next : (i : ℕ) {kept' empty piece ys : List ℕ} {m : ℕ} → Some i ≡ position is_end rest → empty ≡ []
+      → LineClosed kept (take i rest) empty piece → kept' ≡ [] → Put piece m (take (length out - n) (drop n out)) ys
+      → FeedingPut block kept₀ out₀ (take (length rest - (i + 1)) (drop (i + 1) rest)) kept' (n + m) (take n out ++ (ys ++ drop (length out - n) (drop n out)))
+  feeding_put_next i {piece = piece} e is v z p =
+      record { text = w.text ++ piece; feeds = feeding_next w.feeds i e (closed_behind w.text is v) z; put = put_both w.put p }
+
+  pub feeding_put_end : {s s' : Stream} → kept_bytes s ≡ kept₀ → None ≡ position is_end rest → kept_bytes s' ≡ kept ++ take (81 - length kept) rest
+      → BlockPut s block out₀ (record { stream = s'; written = n }) out
+  feeding_put_end {s} {s'} is₀ e is =
+      record {
+        count = w.put.fits;
+        carries = λ input output before.
+            let c = (feeding_end w.feeds {s = s} {s' = s'} is₀ e is).carries input output before in
+            record { text = c.text; after = c.after; put = subst (λ t. Put t n out₀ out) c.put w.put };
+      }
+
 -- ---- the ends of the input
 
-pub begun : {s : Stream} → s.kept.items ≡ [] → Begun s
-begun e = record { left = []; writes = nothing; keeps = e }
+pub none_kept : (kept : List ℕ) {k : ℕ} → k ≡ 0 → take k kept ≡ []
+none_kept kept e = ap (λ k. take k kept) e
 
-pub last_none : {s : Stream} (out : List ℕ) → length s.kept.items ≡ 0 → LastGiven s out out
+pub begun : (s : Stream) → s.len ≡ 0 → Begun s
+begun s e = record { left = []; writes = nothing; keeps = none_kept s.kept e }
+
+pub last_none : {s : Stream} (out : List ℕ) → s.len ≡ 0 → LastGiven s out out
 last_none {s} out z =
     record {
       ends = λ input output before.
-          record { text = []; whole = streamed before.writes (none (nothing_kept before.left (sym z ∙ ap length before.keeps))); put = sym (append-nil out) };
+          let q : 0 ≡ length (take 81 before.left) = sym (ap length (none_kept s.kept z)) ∙ ap length before.keeps in
+          record { text = []; whole = streamed before.writes (none (nothing_kept before.left q)); put = sym (append-nil out) };
     }
 
-pub last_line : {s : Stream} {out out' : List ℕ} → false ≡ eqb (length s.kept.items) 0 → LineEnded s.kept.items out out' → LastGiven s out out'
-last_line {s} z w =
+pub last_line : {s : Stream} {out out' : List ℕ} → length s.kept ≡ 81 → (s.len ≡ 0 → ⊥) → LineEnded (kept_bytes s) out out' → LastGiven s out out'
+last_line {s} long z w =
     record {
       ends = λ input output before.
+          let n : length (kept_bytes s) ≡ s.len = length-take-le s.len s.kept (omega (arith, s.within)) in
           record {
             text = w.text ++ line_end ∷ [];
             whole =
                 streamed before.writes
-                (last w.text (λ q. false≢true (z ∙ eq-eqb _ 0 (ap length before.keeps ∙ ap (λ l. length (take 81 l)) q)))
+                (last w.text (λ q. z (sym n ∙ ap length before.keeps ∙ ap (λ l. length (take 81 l)) q))
                 (answered_kept before.left w.text (subst (λ l. Answered l w.text) before.keeps w.answers)));
             put = w.put;
           };
+    }
+
+-- The same at the front of a buffer.
+pub last_put : {s : Stream} {empty text out out' : List ℕ} {n : ℕ} → empty ≡ [] → LastGiven s empty text → Put text n out out' → LastPut s n out out'
+last_put {out = out} {out' = out'} {n = n} e w p =
+    record {
+      count = p.fits;
+      ends = λ input output before.
+          let f = w.ends input output before in
+          record { text = f.text; whole = f.whole; put = subst (λ t. Put t n out out') (f.put ∙ ap (λ l. l ++ f.text) e) p };
     }

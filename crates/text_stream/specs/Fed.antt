@@ -14,6 +14,13 @@ pub record LineEnded (line out out' : List ℕ) : Type 0 where
   pub put : out' ≡ out ++ (text ++ line_end ∷ [])
   pub most : length out' ≤ length out + 101
 
+-- The line that has begun, of which some bytes are kept, ends behind more of them: a text that answers it, and a line end, are appended.
+pub record LineClosed (kept more out out' : List ℕ) : Type 0 where
+  pub text : List ℕ
+  pub answers : (begun : List ℕ) → Keeps kept begun → Answered (begun ++ more) text
+  pub put : out' ≡ out ++ (text ++ line_end ∷ [])
+  pub most : length out' ≤ length out + 101
+
 -- The input goes on, behind the line that has begun: what is written for it is appended, and what is left of it is kept.
 pub record GoesOn (begun input out kept' out' : List ℕ) : Type 0 where
   pub left : List ℕ

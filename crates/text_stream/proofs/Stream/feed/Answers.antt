@@ -1,23 +1,15 @@
 -- `text_stream::Stream::feed` meets its contract. Assumes nothing.
-use Rattle.std.proofs.Common.{refl, sym, ◌∙◌, eqb-true}
-use Rattle.text_stream.proofs.FedLaws.{feeding_start, feeding_line, feeding_next, feeding_end}
+use Rattle.std.proofs.Common.{refl}
+use Rattle.text_stream.proofs.FedLaws.{none_kept, feeding_put_start, feeding_put_next, feeding_put_end}
 use Rattle.text_stream.proofs.Stream.feed.Goals as goal
-use Rattle.text_stream.proofs.Stream.feed.Goals.{then-not-is_empty, else-not-is_empty}
 
 pub loop-end-init : goal.loop-end-init
-loop-end-init g c = feeding_start _ _ _
+loop-end-init c = feeding_put_start _ _ _
 
 pub loop-end-preserved : goal.loop-end-preserved
-loop-end-preserved g c =
-    elim c.if-not-is_empty.branch [
-      | then-not-is_empty w ↦
-          rw (w.out-is, w.self-is)
-          (feeding_next c.loop-end.invariant c.in-Some.end c.in-Some.ensures w.keep.ensures (rw w.deref.ensures.0 at w.end_line.ensures) w.clear.ensures)
-      | else-not-is_empty w ↦
-          rw (w.out-is, w.self-is)
-          (feeding_line c.loop-end.invariant c.in-Some.end c.in-Some.ensures (eqb-true _ _ (sym c.is_empty.ensures ∙ w.if-not-is_empty.false))
-          w.end_line-else-not-is_empty.ensures)
-    ]
+loop-end-preserved c =
+    feeding_put_next c.loop-end.invariant c.in-Some.end c.in-Some.ensures c.new-text.ensures c.close_line.ensures.text (none_kept _ c.close_line.ensures.empty)
+    (rw c.deref.ensures.0 at c.put_front-written.ensures)
 
 pub returns : goal.returns
-returns g c = feeding_end c.loop-end.invariant refl c.in_default.ensures c.keep-2.ensures
+returns c = feeding_put_end c.loop-end.invariant refl c.in_default.ensures c.keep.ensures
