@@ -1,13 +1,18 @@
 -- How blocks are joined, and what is written for them. Assumes nothing.
-use Rattle.std.proofs.Common.{◌≡◌, ℕ, List, [], ◌++◌, Option, Result, Ok, Err, OnOk, OnErr, IfOk, MatchResult, is_ok, sym, ap, subst, ◌∙◌, append_assoc, append-nil, inl, inr}
+use Rattle.std.proofs.Common.{◌≡◌, ◌≢◌, ℕ, List, [], ◌++◌, Option, None, Some, Result, Ok, Err, OnOk, OnErr, IfOk, MatchResult, is_ok, sym, ap, subst, ◌∙◌, append_assoc, append-nil, inl, inr}
 use Rattle.std.proofs.lemmas.Bool.{false≢true}
+use Rattle.std.specs.IoError.{error_kind}
+use Rattle.std.specs.declared.io.Error.{Error}
+use Rattle.std.specs.declared.io.ErrorKind.TheVariants.{Interrupted}
 use Rattle.std.specs.Io.KnownBytes.{Appends, Consumes, IsAtEnd}
 use Rattle.std.proofs.KnownBytes.{Consumes-trans, Appends-trans}
 use Rattle.text_rules.specs.Stream.{Written, Streamed}
 use Rattle.text_stream.specs.declared.Stream.{Stream}
 use Rattle.text_stream.specs.Stream.{BlockFed, LastGiven}
 use Rattle.output.specs.Output.{StartsOut}
-use Rattle.sheet.specs.Run.{LinesAnswered, AllAnswered, PartAnswered}
+use Rattle.sheet.specs.declared.Failure.{Failure}
+use Rattle.sheet.specs.declared.Failure.TheVariants.{Read}
+use Rattle.sheet.specs.Run.{ReadFailed, LinesAnswered, AllAnswered, PartAnswered}
 
 -- ---- results, and the same with another error
 
@@ -30,10 +35,16 @@ pub was_ok : {A E F : Type 0} (r : Result A E) (r' : Result A F) {x : A} {P : Ty
 was_ok (Ok y) r' q e p = p
 was_ok (Err y) r' q e p = absurd (false≢true (sym q ∙ ap is_ok e))
 
-pub was_value : {A E F : Type 0} (r : Result A E) (r' : Result A F) (P : A → Type 0) (Q : E → Type 0) {x : A} → MatchResult r (λ y. r' ≡ Ok y) Q
-    → is_ok r' ≡ is_ok r → r' ≡ Ok x → IfOk r P → P x
-was_value (Ok y) r' P Q {x} m q e p = let s : y ≡ x = cc in subst P s p
-was_value (Err y) r' P Q m q e p = absurd (false≢true (sym q ∙ ap is_ok e))
+-- ---- a read that failed
+
+-- What a failed read is to the program is nothing only where it was interrupted, and else tells that it failed.
+pub read_failed :
+    (e : Error) (r : Option Failure) {f : Failure} → (error_kind e ≡ Interrupted → r ≡ None) → (error_kind e ≢ Interrupted → r ≡ Some (Read e)) → r ≡ Some f
+    → ReadFailed f
+read_failed e r {f} again stops is =
+    let other : error_kind e ≢ Interrupted = λ p. let q : Some f ≡ None = sym is ∙ again p in cc in
+    let told : f ≡ Read e = let q : Some f ≡ Some (Read e) = sym is ∙ stops other in cc in
+    subst ReadFailed (sym told) other
 
 -- ---- the lines answered so far
 

@@ -1,10 +1,19 @@
 -- What `sheet` does between a reader and a writer. The bytes that a reader has left and those that a writer holds are known or not (`None`). Assumes
 -- nothing.
-use Rattle.std.specs.Prelude.{ℕ, ◌⊎◌, List, [], ◌++◌, Option}
+use Rattle.std.specs.Prelude.{ℕ, ◌≢◌, ◌⊎◌, List, [], ◌++◌, Option}
+use Rattle.std.specs.IoError.{error_kind}
+use Rattle.std.specs.declared.io.ErrorKind.TheVariants.{Interrupted}
 use Rattle.std.specs.Io.KnownBytes.{Appends, Consumes, IsAtEnd}
+use Rattle.sheet.specs.declared.Failure.{Failure}
+use Rattle.sheet.specs.declared.Failure.TheVariants.{Read, Write}
 use Rattle.text_rules.specs.Stream.{Written, Streamed}
 use Rattle.text_stream.specs.declared.Stream.{Stream}
 use Rattle.text_stream.specs.Stream.{After}
+
+-- What the program is told of a read: that it failed, and not because a signal interrupted it.
+abbrev pub ReadFailed : Failure → Type 0
+ReadFailed (Read e) = error_kind e ≢ Interrupted
+ReadFailed (Write e) = ⊥
 
 -- The lines that end in what is read are answered.
 pub record LinesAnswered (r r' w w' : Option (List ℕ)) (s : Stream) : Type 0 where

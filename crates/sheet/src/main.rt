@@ -3,9 +3,10 @@
 // nothing else is written.
 #![tactic(auto)]
 
-ghost use Rattle.std.specs.Prelude.{◌≡◌, ◌≤◌, ◌<◌, [], length, take, OnOk, OnErr, IfOk};
+ghost use Rattle.std.specs.Prelude.{◌≡◌, ◌≢◌, ◌≤◌, ◌<◌, [], length, take, None, Some, OnOk, OnErr, IfOk, IfErr};
+ghost use Rattle.std.specs.IoError.{error_kind};
 ghost use Rattle.std.specs.Io.KnownBytes.{Consumes, IsAtEnd};
-ghost use Rattle.sheet.specs.Run.{AllAnswered, PartAnswered};
+ghost use Rattle.sheet.specs.Run.{ReadFailed, AllAnswered, PartAnswered};
 
 use arrayvec::ArrayVec;
 use output::{Message, write_out};
@@ -30,22 +31,39 @@ impl fmt::Display for Failure {
     }
 }
 
+// What a failed read is to the program: nothing where a signal interrupted it, since it is made again.
+fn failed_read(e: io::Error) -> Option<Failure>
+    ensures again { error_kind e ≡ ErrorKind.Interrupted → result ≡ None }
+    ensures stops { error_kind e ≢ ErrorKind.Interrupted → result ≡ Some (Failure.Read e) }
+{
+    if e.kind() == ErrorKind::Interrupted {
+        None
+    } else {
+        Some(Failure::Read(e))
+    }
+}
+
 // Reads some of the input: no byte at its end. A read that a signal interrupts is made again.
-fn read_some<R: Read>(reader: &mut R, block: &mut [u8]) -> io::Result<usize>
+fn read_some<R: Read>(reader: &mut R, block: &mut [u8]) -> Result<usize, Failure>
     requires { 0 < length block.old }
     ensures within { IfOk result (λ n. n ≤ length block.new) }
     ensures bytes { IfOk result (λ n. Consumes (R.remaining reader.old) (R.remaining reader.new) (take n block.new)) }
     ensures end { IfOk result (λ n. n ≡ 0 → IsAtEnd (R.remaining reader.new)) }
     ensures kept { OnErr result (Consumes (R.remaining reader.old) (R.remaining reader.new) []) }
+    ensures told { IfErr result ReadFailed }
 {
     // To 2^64, as in `write_out` and in the loop of `run`.
     for _ in 0..u64::MAX {
         match reader.read(block) {
-            Err(e) if e.kind() == ErrorKind::Interrupted => {}
-            got => return got,
+            Ok(n) => return Ok(n),
+            Err(e) => {
+                if let Some(failure) = failed_read(e) {
+                    return Err(failure);
+                }
+            }
         }
     }
-    Err(io::Error::from(ErrorKind::TimedOut))
+    Err(Failure::Read(io::Error::from(ErrorKind::TimedOut)))
 }
 
 // Answers the whole input. Where a read or a write fails, what is written is a beginning of the answers.
@@ -60,7 +78,7 @@ pub fn run<R: Read, W: Write>(reader: &mut R, writer: &mut W) -> Result<(), Fail
     // At most 101 bytes for each byte of a block.
     let mut out = ArrayVec::<u8, 413696>::new();
     for _ in 0..u64::MAX {
-        let n = read_some(reader, &mut block).map_err(Failure::Read)?;
+        let n = read_some(reader, &mut block)?;
         out.clear();
         if n == 0 {
             stream.append_last(&mut out);
