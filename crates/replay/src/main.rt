@@ -7,20 +7,20 @@ ghost use Rattle.std.specs.Io.KnownBytes.{Consumes, IsAtEnd};
 ghost use Rattle.std.specs.IoError.{error_kind};
 
 use record_fields::Call;
-use replay_records::{first_difference, replay_list};
+use replay_records::{first_difference, replay_wanted};
 use std::io;
 use std::io::{ErrorKind, Read};
 
 // A line such as "target sums: 213 replayed, 0 differ" for each call, and one for all.
 fn print_report(rt: &impl Print, list: &[u8]) -> io::Result<()> {
     for call in Call::ALL {
-        let tally = replay_list(list, |read| read == Some(call));
+        let tally = replay_wanted(list, |read| read == Some(call));
         println!(rt;
             "{call}: {} replayed, {} differ",
             tally.replayed, tally.differ
         )?;
     }
-    let all = replay_list(list, |_| true);
+    let all = replay_wanted(list, |_| true);
     println!(rt; "{} answers, {} differ", all.replayed, all.differ)?;
     // The tally is asked first: where nothing differs, the calls need not be run once more to find where.
     if 0 < all.differ

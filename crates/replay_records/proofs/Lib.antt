@@ -1,5 +1,5 @@
 -- What the proofs of several functions use.
 mod AgreementLaws
-mod KindLaws
+pub mod KindLaws
 mod ReplayLaws
 mod SolverAgreementLaws

@@ -8,7 +8,7 @@ mod solver_calls;
 ghost use Rattle.std.specs.Prelude.{◌≡◌, ◌+◌, ◌-◌, ◌<◌, ◌^◌, not, length, MatchOption};
 ghost use Rattle.std.specs.Iterator.{at_most};
 ghost use Rattle.record_fields.specs.Calls.{tag_of};
-ghost use Rattle.replay_records.specs.Replay.{FindsAs, Replayed, as_number, RecordsTallied, FirstDifference};
+ghost use Rattle.replay_records.specs.Replay.{FindsAs, Replayed, as_number, kind_of, RecordsTallied, KindsTallied, FirstDifference};
 ghost use Rattle.replay_records.specs.Walk.{NextRecord};
 
 use arrayvec::ArrayVec;
@@ -106,7 +106,7 @@ impl<'a> Iterator for Records<'a> {
 
 // How many records of a list are wanted, and in how many of these the engine answers otherwise. A record is asked for by its call, and what cannot be
 // read by none.
-pub fn replay_list<F: Fn(Option<Call>) -> bool>(list: &[u8], wanted: F) -> Tally
+pub fn replay_wanted<F: Fn(Option<Call>) -> bool>(list: &[u8], wanted: F) -> Tally
     requires { F.IsAlwaysCallable wanted }
     ensures { RecordsTallied (F.post wanted) result.replayed result.differ list.now }
 {
@@ -117,6 +117,27 @@ pub fn replay_list<F: Fn(Option<Call>) -> bool>(list: &[u8], wanted: F) -> Tally
         }
     }
     tally
+}
+
+// The kind that a call names, or 0 where there is none.
+fn kind_number(call: Option<Call>) -> usize
+    ensures { result ≡ kind_of call }
+{
+    match call {
+        Some(call) => usize::from(call.tag()),
+        None => 0,
+    }
+}
+
+// How many records of a list have a kind from first to last, and in how many of these the engine answers otherwise. The kind is the tag, or 0 where none
+// can be read.
+pub fn replay_list(list: &[u8], first: usize, last: usize) -> Tally
+    ensures { KindsTallied first last result.replayed result.differ list.now }
+{
+    replay_wanted(list, |call| {
+        let kind = kind_number(call);
+        first <= kind && kind <= last
+    })
 }
 
 // Where the first record of a list begins in which the engine answers otherwise.

@@ -1,7 +1,7 @@
--- What holds in the loop of `replay_records::replay_list`.
+-- What holds in the loop of `replay_records::replay_wanted`.
 use Rattle.std.proofs.Common.{◌≡◌, drop}
 use Rattle.replay_records.proofs.ReplayLaws.{Completes}
-use Rattle.replay_records.proofs.replay_list.Given as goal
+use Rattle.replay_records.proofs.replay_wanted.Given as goal
 
 abbrev pub invariant-loop-outcome : goal.invariant-loop-outcome
 invariant-loop-outcome g l =
