@@ -1,6 +1,6 @@
 -- What the tally of a line tells of its checks, line after line, and the sums that are written. Assumes nothing.
-use Prim.Native.Nat.{ℕ, suc, ◌+◌, ◌-◌, ◌*◌, ◌%◌, ◌≤◌, ◌<◌}
-use mathlib.Core.Path.{◌≡◌, sym, ◌∙◌}
+use Prim.Native.Nat.{ℕ, zero, suc, ◌+◌, ◌-◌, ◌*◌, ◌%◌, ◌≤◌, ◌<◌}
+use mathlib.Core.Path.{◌≡◌, refl, sym, ◌∙◌}
 use mathlib.Core.Bool.{cond}
 use mathlib.Core.List.{List, ◌++◌, map}
 use native.Mathlib.Omega.{arith}
@@ -108,6 +108,14 @@ fill_next f l i v h e d = rw (map_next f i, add-one i, take-suc-set l i v h, e, 
 pub sums_next : (f : ℕ → ℕ) (l : List ℕ) (i : ℕ) → tallied_sums l i ≡ map f (span 0 i) → tallied_sum (get_or l i 0) ≡ f i → tallied_sums l (i + 1) ≡ map f (span 0 (i + 1))
 unfolding tallied_sums
 sums_next f l i e d = rw (map_next f i, map_next (λ j. tallied_sum (get_or l j 0)) i, e, d)
+
+-- the sums of all of them
+pub sums_each : (f : ℕ → ℕ) (l : List ℕ) (n : ℕ) → ((k : ℕ) → k < n → tallied_sum (get_or l k 0) ≡ f k) → tallied_sums l n ≡ map f (span 0 n)
+unfolding tallied_sums span
+sums_each f l zero d = refl
+sums_each f l (suc k) d =
+    let e : k + 1 ≡ suc k = omega arith in
+    rw e at (sums_next f l k (sums_each f l k (λ i h. d i (omega arith))) (d k (omega arith)))
 
 -- what is written of the lines is a sum for each
 pub written : (lines : Lines) (f : ℕ → List ℕ) {g : List ℕ} {step stride n m : ℕ} →

@@ -127,16 +127,6 @@ fn add_row(row: Line, down: &mut [u32]) -> u32
     t
 }
 
-// The tallies of all rows and columns: one walk over the grid is faster than one for each line.
-fn tally_grid(rows: Lines, across: &mut [u32], down: &mut [u32])
-    requires { TallyAsk rows.count (length across.old) down.old }
-    ensures { GridTallied rows.entry across.new down.new }
-{
-    for i in 0..rows.count {
-        across[i] = add_row(rows.line(i), down);
-    }
-}
-
 // The checks of a line, by its tally.
 fn check_tally(t: u32) -> Result<(), Refusal>
     ensures { Told t result }
@@ -151,6 +141,21 @@ fn check_tally(t: u32) -> Result<(), Refusal>
         return Err(Refusal::EmptyCell);
     }
     Err(Refusal::Sum)
+}
+
+// The tallies of all rows and columns: one walk over the grid is faster than one for each line. A row is checked when its walk ends, so that no cell behind
+// the first row with a fault is read.
+fn tally_grid(rows: Lines, across: &mut [u32], down: &mut [u32]) -> Result<(), Refusal>
+    requires { TallyAsk rows.count (length across.old) down.old }
+    ensures { Passed (join (each_line check_line rows.entry))
+        (λ done. GridTallied rows.entry across.new down.new × (tallied_sums across.new rows.entry.count ≡ each_line line_sum rows.entry)) result }
+{
+    for i in 0..rows.count {
+        let t = add_row(rows.line(i), down);
+        check_tally(t)?;
+        across[i] = t;
+    }
+    Ok(())
 }
 
 // The checks of one line after the other, by their tallies.
@@ -217,10 +222,10 @@ pub fn compute_targets(
     let size = checked_size(unit, size, cells, rows.len(), columns.len())?;
     let mut across = [0u32; 9];
     let mut down = [0u32; 9];
-    let lines = Lines::rows(cells, size);
-    tally_grid(lines, &mut across, &mut down);
-    check_tallies(lines, &across)?;
-    check_tallies(Lines::columns(cells, size), &down)?;
+    let row_lines = Lines::rows(cells, size);
+    let column_lines = Lines::columns(cells, size);
+    tally_grid(row_lines, &mut across, &mut down)?;
+    check_tallies(column_lines, &down)?;
     write_sums(&across, &down, rows, columns);
     Ok(())
 }
