@@ -1,5 +1,6 @@
 -- The checks of a line, one after the other, and the text of each. Assumes nothing.
 use Rattle.std.specs.Fmt.{decimal}
+use Rattle.std.specs.Fmt.{digits as decimal_digits}
 use Prim.Native.Nat.{ℕ, ◌+◌, ◌-◌, ◌*◌, ◌≤◌, ◌<◌}
 use mathlib.Core.Path.{◌≡◌, refl, sym, ap, subst, ◌∙◌}
 use mathlib.Core.Bool.{true, false, cond}
@@ -119,6 +120,11 @@ module _ (line : List ℕ) where
         subst (λ ns. refusal (number_checks ns) ≡ refusal (puzzle_checks hall (puzzle_from ns))) e.1 (checks_same ns (form_long ns p.0)) in
         let d : refusal (line_checks line) ≡ refusal (puzzle_checks hall (puzzle_from (numbers line))) = rw e.0 c in
         record { text = _; answers = rw d; put = v.put }
+
+-- The text of the refusal of a line that has no numbers, byte by byte.
+pub text_11 : {l : List ℕ} (out : List ℕ) → l ≡ out ++ (114 ∷ 101 ∷ 102 ∷ 117 ∷ 115 ∷ 101 ∷ 100 ∷ 32 ∷ 49 ∷ 49 ∷ []) → l ≡ out ++ (refused_word ++ decimal (refusal_number TextLine))
+unfolding decimal_digits
+text_11 out e = e
 
 module _ {line out : List ℕ} where
   pub refused_text : {l : List ℕ} (k : Refusal) → checked (line_checks line) ≡ Err k
