@@ -17,6 +17,7 @@ use refusal::{Refusal, number_of};
 use units::Unit;
 
 // The numbers of the answers that are no refusals, as C knows them.
+#[derive(Clone, Copy)]
 pub struct Answer;
 
 impl Answer {

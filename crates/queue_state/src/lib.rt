@@ -10,6 +10,7 @@ ghost use Rattle.queue_state.specs.Slab.{Sized, Struck, One, Masked, unmasked, U
 
 use value::Bits;
 
+#[derive(Clone, Copy)]
 pub struct Slab;
 
 impl Slab {
