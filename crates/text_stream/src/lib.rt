@@ -82,7 +82,7 @@ impl Stream {
             end_line(&self.kept[..self.len], out);
             self.len = 0;
         } else {
-            // It lies in the block as a whole, and is answered where it stands: to copy it takes a short line's time up to a quarter longer.
+            // It lies in the block as a whole, and is answered where it stands.
             end_line(bytes, out);
         }
     }
